@@ -1,0 +1,5 @@
+pub mod Checksum
+pub mod Pieces
+pub mod Pages
+pub mod Streams
+pub mod Entries
