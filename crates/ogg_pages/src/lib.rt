@@ -1,0 +1,15 @@
+//! Finds the pages of an Ogg file (RFC 3533, section 6).
+#![tactic(auto)]
+
+mod crc;
+mod parts;
+mod scanner;
+
+pub use crc::checksum;
+pub use model_ogg::PageRef;
+pub use parts::{body, laces};
+pub use scanner::scan;
+pub use sequence::NoMemory;
+
+#[cfg(test)]
+mod tests;
