@@ -1,0 +1,4 @@
+pub mod Commands
+pub mod Look
+pub mod Texts
+pub mod Outcome

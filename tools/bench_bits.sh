@@ -1,0 +1,81 @@
+#!/usr/bin/env bash
+# Measures what reading bits costs: builds a scratch program over bit_reader in a temporary folder,
+# below a copy of the crates that it stands on, and prints the times. It writes nothing in the repository.
+set -euo pipefail
+top=$(cd "$(dirname "$0")/.." && pwd)
+work=$(mktemp -d)
+trap 'rm -rf "$work"' EXIT
+mkdir "$work/crates"
+for crate in model_bits bit_reader; do
+    mkdir "$work/crates/$crate"
+    (cd "$top/crates/$crate" && tar cf - --exclude=./out .) | (cd "$work/crates/$crate" && tar xf -)
+    sed -n "/^$crate:/p" "$top/crates.txt" >>"$work/crates.txt"
+done
+cd "$work"
+rt new crates/bench_bits start_io >"$work/log" 2>&1
+rm -rf BUILD.bazel crates/bench_bits/{BUILD.bazel,proofs,specs,stdin,stdout,must-fail,src}
+mkdir crates/bench_bits/src
+echo 'bench_bits: bit_reader' >>crates.txt
+cat >crates/bench_bits/src/main.rt <<'RATTLE'
+//! Times reading a packet of a thousand bytes many times, whole bytes and fields of some widths.
+#![tactic(auto)]
+
+use bit_reader::Bits;
+use std::io;
+use std::time::Instant;
+
+/// How many packets are read for each line.
+const PACKETS: u32 = 20_000;
+
+/// Each byte once, for comparison.
+fn bytes_sum(bytes: &[u8]) -> u32 {
+    let mut sum: u32 = 0;
+    for byte in bytes {
+        sum = sum.wrapping_mul(31).wrapping_add(u32::from(*byte));
+    }
+    sum
+}
+
+/// Fields of one width, up to the end of the packet.
+fn fields_sum(bytes: &[u8], width: u32) -> u32
+    requires { width ≤ 32 }
+{
+    let mut bits = Bits::new(bytes);
+    let mut sum: u32 = 0;
+    for _ in 0..8000u32 {
+        let Some(field) = bits.take(width) else {
+            return sum;
+        };
+        sum = sum.wrapping_mul(31).wrapping_add(field);
+    }
+    sum
+}
+
+fn main(rt: HostRuntime) -> io::Result<()> {
+    let mut bytes = [0u8; 1000];
+    for (i, byte) in bytes.iter_mut().enumerate() {
+        *byte = (i * 37 % 251) as u8;
+    }
+    let begin = Instant::now(&rt)?;
+    let mut sum: u32 = 0;
+    for _ in 0..PACKETS {
+        sum = sum.wrapping_add(bytes_sum(&bytes));
+    }
+    let spent = begin.elapsed(&rt)?.as_nanos();
+    println!(rt; "bytes one by one: {spent} ns for {PACKETS} packets of 1000 bytes (sum {sum})")?;
+    for width in [1u32, 3, 5, 8, 13, 16, 24, 32] {
+        let begin = Instant::now(&rt)?;
+        let mut sum: u32 = 0;
+        for _ in 0..PACKETS {
+            sum = sum.wrapping_add(fields_sum(&bytes, width));
+        }
+        let spent = begin.elapsed(&rt)?.as_nanos();
+        println!(rt; "fields of {width} bits: {spent} ns (sum {sum})")?;
+    }
+    Ok(())
+}
+RATTLE
+sed -i 's/^use bit_reader/ghost use Rattle.std.specs.Prelude.{◌≤◌};\n\nuse bit_reader/' crates/bench_bits/src/main.rt
+cd crates/bench_bits
+rt run >"$work/log" 2>&1 || { cat "$work/log"; exit 1; }
+grep ' ns' "$work/log"
