@@ -2,11 +2,16 @@
 #![tactic(auto)]
 
 mod fault;
+mod join;
 mod page;
 mod segments;
 mod stream;
 
 pub use fault::EntryFault;
+pub use join::joined;
 pub use model_ogg::{Entry, Mark, PageRef, Piece, Pieces};
 pub use sequence::NoMemory;
 pub use stream::packets;
+
+#[cfg(test)]
+mod tests;

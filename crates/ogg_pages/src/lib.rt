@@ -4,6 +4,7 @@
 mod crc;
 mod parts;
 mod scanner;
+mod tables;
 
 pub use crc::checksum;
 pub use model_ogg::PageRef;

@@ -1,9 +1,11 @@
-ghost use Rattle.std.specs.Prelude.{◌≡◌, ◌<◌, ◌≤◌, ◌^◌, ◌+◌, length, sum, nat_le, if◌then◌else◌, IfOk, IfSome, Some, None, All};
+ghost use Rattle.std.specs.Prelude.{◌≡◌, ◌<◌, ◌≤◌, ◌^◌, ◌+◌, [], length, sum, nat_le, if◌then◌else◌, MatchOption, IfOk, Some, None, All};
 ghost use Rattle.model_ogg.specs.Pages.{IsPageOf};
-ghost use Rattle.model_ogg.specs.Pages.{page_len, is_right_page, begins_page, page_ref, pages};
+ghost use Rattle.model_ogg.specs.Pages.{laces, page_len, is_right_page, begins_page, page_ref, pages};
+ghost use Rattle.ogg_pages.specs.Next.{page_front, IsNextPage};
 
 use crate::crc::checksum;
 use byteorder::{ByteOrder, LittleEndian};
+use memchr::memmem::Finder;
 use model_ogg::PageRef;
 use sequence::NoMemory;
 use std::alloc::Global;
@@ -16,31 +18,14 @@ fn body_len(laces: &[u8]) -> u32
     laces.iter().map(|lace| u32::from(*lace)).sum()
 }
 
-// The length of the page at the front, where it is whole.
-#[tactic(auto, unfolding(model_ogg::specs::Pages::page_len))]
-fn whole_len(rest: &[u8]) -> Option<usize>
-    ensures value { result ≡ (if nat_le (page_len rest.now) (length rest.now) then Some (page_len rest.now) else None) }
-    ensures long { IfSome result (λ len. 27 ≤ len) }
-{
-    if rest.len() < 27 {
-        return None;
-    }
-    let laces_end = 27 + usize::from(rest[26]);
-    if rest.len() < laces_end {
-        return None;
-    }
-    let len = laces_end + body_len(&rest[27..laces_end]) as usize;
-    if rest.len() < len { None } else { Some(len) }
-}
-
-// What the header at the front says.
-#[tactic(auto, unfolding(model_ogg::specs::Pages::page_ref, model_ogg::specs::Pages::granule_of, model_ogg::specs::Pages::page_len))]
-fn header(rest: &[u8], place: u64) -> PageRef
-    requires { page_len rest.now ≤ length rest.now }
+// What the header at the front says, of a page whose body has so many bytes.
+#[tactic(auto, unfolding(model_ogg::specs::Pages::page_ref, model_ogg::specs::Pages::granule_of))]
+fn header(rest: &[u8], place: u64, body: u32) -> PageRef
+    requires whole { 27 ≤ length rest.now }
+    requires body { body ≡ sum (laces rest.now) }
     ensures { result ≡ page_ref place rest.now }
 {
     let granule = LittleEndian::read_u64(&rest[6..]);
-    let laces_end = 27 + usize::from(rest[26]);
     PageRef {
         place,
         flags: rest[5],
@@ -52,8 +37,34 @@ fn header(rest: &[u8], place: u64) -> PageRef
         serial: LittleEndian::read_u32(&rest[14..]),
         sequence: LittleEndian::read_u32(&rest[18..]),
         segments: rest[26],
-        body: body_len(&rest[27..laces_end]),
+        body,
     }
+}
+
+// What the header at the front says, where the page is whole.
+#[tactic(auto, unfolding(model_ogg::specs::Pages::page_len))]
+fn whole_page(rest: &[u8], place: u64) -> Option<PageRef>
+    ensures { result ≡ (if nat_le (page_len rest.now) (length rest.now) then Some (page_ref place rest.now) else None) }
+{
+    if rest.len() < 27 {
+        return None;
+    }
+    let laces_end = 27 + usize::from(rest[26]);
+    if rest.len() < laces_end {
+        return None;
+    }
+    let body = body_len(&rest[27..laces_end]);
+    if rest.len() < laces_end + body as usize {
+        return None;
+    }
+    Some(header(rest, place, body))
+}
+
+// How many bytes a page has.
+fn len(page: &PageRef) -> usize
+    ensures { result ≡ 27 + page.now.segments + page.now.body }
+{
+    27 + usize::from(page.segments) + page.body as usize
 }
 
 // Whether a whole page has capture bytes, version 0 and its checksum.
@@ -72,12 +83,30 @@ fn is_right(page: &[u8]) -> bool
 fn page_at(rest: &[u8], place: u64) -> Option<PageRef>
     ensures { result ≡ (if begins_page rest.now then Some (page_ref place rest.now) else None) }
 {
-    let len = whole_len(rest)?;
-    if is_right(&rest[..len]) {
-        Some(header(rest, place))
+    let page = whole_page(rest, place)?;
+    if is_right(&rest[..len(&page)]) {
+        Some(page)
     } else {
         None
     }
+}
+
+// The first page from a place on. Each begins with the capture bytes and the version, which the finder looks for.
+fn next_page(bytes: &[u8], finder: &Finder, from: usize) -> Option<PageRef>
+    requires len { length bytes.now < 2 ^ 32 }
+    requires within { from ≤ length bytes.now }
+    requires finder { finder.now ≡ page_front }
+    ensures { MatchOption result (pages bytes.now from ≡ []) (IsNextPage bytes.now from) }
+{
+    let mut place = from;
+    while let Some(ahead) = finder.find(&bytes[place..]) {
+        place += ahead;
+        if let Some(page) = page_at(&bytes[place..], place as u64) {
+            return Some(page);
+        }
+        place += 1;
+    }
+    None
 }
 
 /// The pages of these bytes, in order.
@@ -86,16 +115,12 @@ pub fn scan(alloc: Global, bytes: &[u8]) -> Result<Vec<PageRef>, NoMemory>
     ensures value { IfOk result (λ found. found.items ≡ pages bytes.now 0) }
     ensures each { IfOk result (λ found. All (IsPageOf bytes.now) found.items) }
 {
+    let finder = Finder::new(b"OggS\0");
     let mut found = Vec::new(alloc);
     let mut place = 0;
-    while place < bytes.len() {
-        match page_at(&bytes[place..], place as u64) {
-            Some(page) => {
-                place += 27 + usize::from(page.segments) + page.body as usize;
-                found.push(page)?;
-            }
-            None => place += 1,
-        }
+    while let Some(page) = next_page(bytes, &finder, place) {
+        place = page.place as usize + len(&page);
+        found.push(page)?;
     }
     Ok(found)
 }

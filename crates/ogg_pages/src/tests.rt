@@ -1,4 +1,5 @@
 use super::*;
+use std::alloc::{AllocError, Global};
 use std::test::Fail;
 
 // Two pages between other bytes: one with the first-page flag and one byte, one with the last-page flag, a granule
@@ -39,4 +40,42 @@ fn finds_the_pages_between_other_bytes(rt: HostRuntime) -> Result<(), Fail> {
 #[test]
 fn has_the_published_check_value(rt: HostRuntime) {
     assert_eq!(rt; checksum(b"123456789"), 0x89a1_897f);
+}
+
+// The checksum as it is defined, a bit at a time.
+fn checksum_bit_by_bit(bytes: &[u8]) -> u32 {
+    let mut sum = 0u32;
+    for (place, byte) in bytes.iter().enumerate() {
+        let counted = if (22..26).contains(&place) { 0 } else { *byte };
+        sum ^= u32::from(counted) << 24;
+        for _ in 0..8u32 {
+            let doubled = sum << 1;
+            sum = if sum < 0x8000_0000 {
+                doubled
+            } else {
+                doubled ^ 0x04c1_1db7
+            };
+        }
+    }
+    sum
+}
+
+fn sample(alloc: Global, len: u32) -> Result<Vec<u8>, AllocError> {
+    let mut bytes = Vec::new(alloc);
+    let mut byte = 7u8;
+    for _ in 0..len {
+        bytes.push(byte)?;
+        byte = byte.wrapping_mul(181).wrapping_add(59);
+    }
+    Ok(bytes)
+}
+
+// Lengths round the bytes of the checksum itself, round one and two steps of eight behind them, and a long one.
+#[test]
+fn sums_by_tables_as_bit_by_bit(rt: HostRuntime) -> Result<(), Fail> {
+    for len in [0u32, 1, 9, 22, 23, 25, 26, 27, 33, 34, 35, 42, 300] {
+        let bytes = sample(rt.alloc(), len)?;
+        assert_eq!(rt; checksum(&bytes), checksum_bit_by_bit(&bytes));
+    }
+    Ok(())
 }

@@ -2,19 +2,15 @@
 #![tactic(auto)]
 
 use player_session::{Status, player};
-use std::env;
-use std::io;
 use std::process::ExitCode;
 use std::rt::Env;
+use std::{env, io};
 use vf_outside::{FileShelf, OpenGate, StdSink};
 
 // The words after the program's name. Words that are no text are one word that is no command.
 fn words<R: Env + AllocGlobal>(rt: &R) -> Result<Vec<String>, Status> {
     match env::args(rt) {
-        Ok(args) => args
-            .skip(1)
-            .collect(rt.alloc())
-            .map_err(|_| Status::Memory),
+        Ok(args) => args.skip(1).collect(rt.alloc()).map_err(|_| Status::Memory),
         Err(error) if error.kind() == io::ErrorKind::OutOfMemory => Err(Status::Memory),
         Err(_) => Ok(Vec::new(rt.alloc())),
     }

@@ -1,16 +1,13 @@
 -- Where nothing fails, the duty was done.
-use Rattle.std.proofs.Common.{◌≡◌, ℕ, ◌≤◌, ◌<◌, List, length, Option, Some, None, Ok, Err, refl, sym, ap, subst, ◌∙◌, inl, inr, arith}
+use Rattle.std.proofs.Common.{◌≡◌, ℕ, ◌≤◌, ◌<◌, List, length, Option, Some, None, Ok, Err, refl, sym, ap, subst, ◌∙◌, inl, inr}
 use Rattle.std.proofs.lemmas.Bool.{lt-ltb, le-ltb}
-use Rattle.std.specs.Io.KnownBytes.{Appends, Keeps}
-use Rattle.vf_outside.specs.Told.{Told, MayGive, MayBeTooLong}
-use Rattle.model_player.specs.declared.line.LinkLine.{LinkLine}
-use Rattle.model_player.specs.declared.line.LookFault.{LookFault}
+use Rattle.std.specs.Io.KnownBytes.{Appends}
+use Rattle.vf_outside.specs.Told.{Told, MayBeTooLong}
 use Rattle.model_player.specs.declared.status.Status.{Status}
 use Rattle.model_player.specs.declared.status.Status.TheVariants as statuses
 use Rattle.model_player.specs.Commands.{Command, info}
-use Rattle.model_player.specs.Texts.{info_text, fault_line, too_long_line}
 use Rattle.model_player.specs.Look.{look}
-use Rattle.model_player.specs.Outcome.{ShelfRun, SinkRun, MayHave, Outcome, Does, duty_of, Completes, film_limit}
+use Rattle.model_player.specs.Outcome.{ShelfRun, SinkRun, MayHave, Outcome, Completes, film_limit}
 
 -- the film is the one that is told
 same_film : (t : Told) (film other : List ℕ) → t ≡ Some (Some film) → MayHave t other → other ≡ film

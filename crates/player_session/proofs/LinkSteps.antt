@@ -1,7 +1,7 @@
 -- A link's first page, and the first packet part of a page.
-use Rattle.std.proofs.Common.{◌≡◌, ℕ, suc, ◌+◌, ◌-◌, ◌<◌, ◌≤◌, Bool, true, false, cond, nat_lt, List, [], ◌∷◌, length, take, drop, get_or, sum, None, refl, sym, ap, ◌∙◌, arith}
+use Rattle.std.proofs.Common.{◌≡◌, ℕ, suc, ◌+◌, ◌<◌, ◌≤◌, true, false, List, [], length, drop, get_or, sum, None, refl, sym, ap, ◌∙◌}
 use Rattle.std.proofs.lemmas.Bool.{lt-ltb, le-ltb}
-use Rattle.std.proofs.lemmas.List.{at_drop_more, drop_all, drop_more, drop-drop}
+use Rattle.std.proofs.lemmas.List.{at_drop_more, drop_all, drop_more}
 use Rattle.std.proofs.lemmas.List.Sums.{sum_by-cons}
 use Rattle.model_ogg.specs.declared.page.PageRef.{PageRef}
 use Rattle.model_ogg.specs.Streams.{is_first, is_last, from_first, stream_of, first_part_len}

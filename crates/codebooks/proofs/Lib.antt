@@ -1,0 +1,10 @@
+pub mod Places
+pub mod Claims
+pub mod Finds
+pub mod Walks
+pub mod Permuted
+pub mod LengthLists
+pub mod Comparisons
+pub mod Scales
+pub mod Bounds
+pub mod Fills

@@ -1,0 +1,4 @@
+pub mod Free
+pub mod Ranges
+pub mod Tables
+pub mod Books

@@ -1,0 +1,176 @@
+ghost use Rattle.std.specs.Prelude.{◌≡◌, ◌≤◌, ◌<◌, ◌^◌, length, [], Some, None, IfSome, IfNone, IfOk, OnSome, IsSome, IsTrue, is_some};
+ghost use Rattle.std.specs.List.{All};
+ghost use Rattle.model_setup.specs.Codewords.{book_words, entry_at};
+ghost use Rattle.model_setup.specs.Vectors.{vector_at};
+ghost use Rattle.model_setup.specs.BookReading.{ReadsAs, front_at, length_list_at, lengths_at, book_at, multiplicands_of};
+ghost use Rattle.codebooks.specs.Free.{IsLengthIfUsed};
+ghost use Rattle.codebooks.specs.Books.{IsTree};
+
+use crate::fields::read_field;
+use crate::lengths::{read_ordered_lengths, read_unordered_lengths};
+use crate::lookup::{Table, read_lookup};
+use crate::walk::entry_by;
+use crate::words::codewords;
+use bit_reader::Bits;
+use model_setup::{BookFault, Budget, Word};
+use std::alloc::Global;
+use std::marker::Model;
+
+/// A codebook: how entries and their vectors are read from a packet (Vorbis I, section 3).
+#[derive(Drop)]
+pub struct Book {
+    dimensions: u16,
+    lengths: Vec<Option<u8>>,
+    words: Vec<Word>,
+    table: Option<Table>,
+}
+
+impl Model for Book {
+    ghost use Rattle.model_setup.specs.Codebook.{Codebook};
+    ghost use Rattle.codebooks.specs.Books.{IsBook};
+
+    ghost Value = { Codebook };
+
+    ghost view = { λ a. record { dimensions = a.dimensions; lengths = a.lengths.items; lookup = a.table } };
+
+    ghost invariant = { λ a. IsBook a.dimensions a.lengths.items a.words.items a.table };
+}
+
+/// Reads the dimensions and the number of entries, which may be at most so many.
+#[tactic(auto, unfolding(model_setup::specs::BookReading::front_at))]
+fn read_front(bits: &mut Bits, most: u32) -> Result<(u16, u32), BookFault>
+    ensures read { ReadsAs (λ f. f) result bits.new (front_at most bits.old.left) }
+    ensures few { IfOk result (λ f. f.1 < 2 ^ 24) }
+    ensures within { IfOk result (λ f. f.1 ≤ most) }
+{
+    let sync = read_field(bits, 24)?;
+    if sync != 0x56_4342 {
+        return Err(BookFault::Sync);
+    }
+    let dimensions = read_field(bits, 16)?;
+    let entries = read_field(bits, 24)?;
+    if entries > most {
+        return Err(BookFault::Limit);
+    }
+    Ok((dimensions as u16, entries))
+}
+
+/// Reads the lengths of the codewords.
+#[tactic(auto, unfolding(model_setup::specs::BookReading::length_list_at))]
+fn read_lengths(alloc: Global, bits: &mut Bits, entries: u32) -> Result<Vec<Option<u8>>, BookFault>
+    ensures read { ReadsAs (λ v. v.items) result bits.new (length_list_at entries bits.old.left) }
+    ensures count { IfOk result (λ v. length v.items ≡ entries) }
+    ensures small { IfOk result (λ v. All IsLengthIfUsed v.items) }
+{
+    let ordered = read_field(bits, 1)?;
+    if ordered == 1 {
+        read_ordered_lengths(alloc, bits, entries)
+    } else {
+        read_unordered_lengths(alloc, bits, entries)
+    }
+}
+
+/// Reads the lengths of the codewords, which must make a whole tree, and gives the words.
+#[tactic(auto, unfolding(model_setup::specs::BookReading::lengths_at))]
+fn read_tree(
+    alloc: Global,
+    bits: &mut Bits,
+    entries: u32,
+) -> Result<(Vec<Option<u8>>, Vec<Word>), BookFault>
+    requires { entries < 2 ^ 24 }
+    ensures read { ReadsAs (λ t. t.0.items) result bits.new (lengths_at entries bits.old.left) }
+    ensures count { IfOk result (λ t. length t.0.items ≡ entries) }
+    ensures tree { IfOk result (λ t. IsTree t.0.items t.1.items) }
+{
+    let lengths = read_lengths(alloc, bits, entries)?;
+    let words = codewords(alloc, &lengths)?;
+    Ok((lengths, words))
+}
+
+/// How many multiplicands a book holds.
+fn multiplicands_of(table: &Option<Table>) -> usize
+    ensures { result ≡ multiplicands_of table.now }
+{
+    match table {
+        Some(table) => table.len(),
+        None => 0,
+    }
+}
+
+impl Book {
+    /// Reads a codebook, and takes its entries and multiplicands from the budget. The first cause
+    /// of a refusal in reading order is answered; neither the bits nor the budget are of use then.
+    #[tactic(auto, unfolding(model_setup::specs::BookReading::book_at))]
+    pub fn read(alloc: Global, bits: &mut Bits, budget: &mut Budget) -> Result<Book, BookFault>
+        ensures { ReadsAs (λ b. (b, budget.new)) result bits.new (book_at budget.old bits.old.left) }
+    {
+        let (dimensions, entries) = read_front(bits, budget.entries)?;
+        let (lengths, words) = read_tree(alloc, bits, entries)?;
+        let table = read_lookup(
+            alloc,
+            bits,
+            u32::from(dimensions),
+            entries,
+            budget.multiplicands,
+        )?;
+        budget.entries -= entries;
+        budget.multiplicands -= multiplicands_of(&table) as u32;
+        Ok(Book {
+            dimensions,
+            lengths,
+            words,
+            table,
+        })
+    }
+
+    /// How many values the vector of an entry has.
+    pub fn dimensions(&self) -> u32
+        ensures { result ≡ self.now.dimensions }
+    {
+        u32::from(self.dimensions)
+    }
+
+    /// How many entries the book has, used or not.
+    pub fn entries(&self) -> u32
+        ensures { result ≡ length self.now.lengths }
+    {
+        self.lengths.len() as u32
+    }
+
+    /// Whether entries have vectors.
+    pub fn has_lookup(&self) -> bool
+        ensures { result ≡ is_some self.now.lookup }
+    {
+        self.table.is_some()
+    }
+
+    /// Reads the entry whose codeword is next. `None` is the end of the packet, also where no
+    /// entry is used: the bits are used up then.
+    #[tactic(auto, unfolding(model_setup::specs::Codewords::entry_at))]
+    pub fn entry(&self, bits: &mut Bits) -> Option<u32>
+        ensures found { IfSome result (λ e. entry_at self.now.lengths bits.old.left ≡ Some (e, bits.new.left)) }
+        ensures below { IfSome result (λ e. e < length self.now.lengths) }
+        ensures ended { IfNone result (entry_at self.now.lengths bits.old.left ≡ None) }
+        ensures finished { IfNone result (bits.new.left ≡ []) }
+    {
+        entry_by(&self.words, bits)
+    }
+
+    /// Reads an entry and writes its vector, in units of 2^-16. `None` is the end of the packet:
+    /// nothing is written then, and the bits are used up.
+    #[tactic(auto, unfolding(model_setup::specs::Vectors::vector_at))]
+    pub fn vector(&self, bits: &mut Bits, out: &mut [i64]) -> Option<()>
+        requires lookup { IsSome self.now.lookup }
+        requires room { length out.old ≡ self.now.dimensions }
+        ensures found { OnSome result (vector_at self.now bits.old.left ≡ Some (out.new, bits.new.left)) }
+        ensures ended { IfNone result (vector_at self.now bits.old.left ≡ None) }
+        ensures finished { IfNone result (bits.new.left ≡ []) }
+        ensures kept { IfNone result (out.new ≡ out.old) }
+    {
+        let entry = self.entry(bits)?;
+        if let Some(table) = &self.table {
+            table.fill(entry, out);
+        }
+        Some(())
+    }
+}

@@ -1,0 +1,10 @@
+pub mod ReadsFields
+pub mod IdentReads
+pub mod CommentReads
+pub mod Examples
+pub mod Sizes
+pub mod Digits
+pub mod Runs
+pub mod BookFails
+pub mod BookExamples
+pub mod Roots

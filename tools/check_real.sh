@@ -1,0 +1,149 @@
+#!/usr/bin/env bash
+# Compares what `info` counts in real films with what `oggz-info` and `ogginfo` say of them.
+#
+#     tools/check_real.sh [--small]
+#
+# Makes the films by `sox` and `oggenc`; with --small only four short ones. PLAYER is the program (default: `player` at
+# the repository's root). Where the tools are missing and can't be installed it says so, and its status is 0.
+# Else the last line is 'N passed, N failed', and the status is 1 where something failed.
+# Writes only below a folder of its own in the place for temporary files, and removes it.
+set -euo pipefail
+
+root=$(cd "$(dirname "$(readlink -f "${BASH_SOURCE[0]}")")/.." && pwd)
+PLAYER=${PLAYER:-$root/player}
+
+small=
+case ${1:-} in
+    '') ;;
+    --small) small=1 ;;
+    *)
+        echo "usage: tools/check_real.sh [--small]" >&2
+        exit 2
+        ;;
+esac
+
+# whether a program is there, after an attempt to install its package
+have() {
+    local program=$1 package=$2
+    command -v "$program" >/dev/null && return
+    if [ "$(id -u)" = 0 ] && command -v apt-get >/dev/null; then
+        apt-get install -y "$package" >/dev/null 2>&1 || true
+    fi
+    command -v "$program" >/dev/null
+}
+
+for pair in oggenc:vorbis-tools ogginfo:vorbis-tools sox:sox oggz-info:oggz-tools; do
+    have "${pair%:*}" "${pair#*:}" || {
+        echo "skipped: ${pair%:*} is missing, of the package ${pair#*:}; no real film was compared"
+        exit 0
+    }
+done
+
+work=$(mktemp -d)
+trap 'rm -rf "$work"' EXIT
+passed=0
+failed=0
+
+pass() {
+    echo "ok: $1"
+    passed=$((passed + 1))
+}
+
+fail() {
+    echo "FAILED: $1: $2"
+    failed=$((failed + 1))
+}
+
+# make NAME SERIAL CHANNELS RATE SECONDS QUALITY: a film of sound
+make() {
+    sox -R -n -r "$4" -c "$3" -b 16 -e signed-integer -t raw - synth "$5" pinknoise vol 0.5 \
+        | oggenc -Q -r -B 16 -C "$3" -R "$4" -q "$6" -s "$2" -o "$work/$1.ogg" -
+}
+
+# info NAME: what the program prints of a film goes into `said`, and its status into `status`
+info() {
+    status=0
+    said=$("$PLAYER" info "$work/$1.ogg" 2>"$work/notes") || status=$?
+}
+
+# counts NAME SERIAL CHANNELS RATE [cut]: the program's counts are those of oggz-info, and the stream is the one that
+# ogginfo tells of. A film that is cut short may have lost the packet that was open at its end.
+counts() {
+    local name=$1 serial=$2 channels=$3 rate=$4 cut=${5:-} told heard pages packets expected
+    info "$name"
+    told=$(oggz-info "$work/$name.ogg" 2>/dev/null || true)
+    heard=$(ogginfo "$work/$name.ogg" 2>&1 || true)
+    read -r packets pages < <(sed -n 's/^\t\([0-9]*\) packets in \([0-9]*\) pages.*/\1 \2/p' <<<"$told") || true
+    expected="link 0 serial $serial pages $pages packets $packets lost 0"
+    if [ "$status" != 0 ]; then
+        fail "$name" "status $status, $(head -c 200 "$work/notes")"
+    elif ! grep -q "^New logical stream (#1, serial: 0*$(printf '%x' "$serial")): type vorbis\$" <<<"$heard"; then
+        fail "$name" "ogginfo tells of another stream"
+    elif ! grep -q "^Channels: $channels\$" <<<"$heard" || ! grep -q "^Rate: $rate\$" <<<"$heard"; then
+        fail "$name" "ogginfo tells of other channels or another rate"
+    elif [ "$said" = "$expected" ] || { [ -n "$cut" ] && [ "$said" = "${expected%0}1" ]; }; then
+        pass "$name: $said"
+    else
+        fail "$name" "said '$said', expected '$expected'"
+    fi
+}
+
+# refused NAME: the film is one that isn't taken yet
+refused() {
+    info "$1"
+    if [ "$status" = 5 ] && [ -z "$said" ] && grep -q 'film not built' "$work/notes"; then
+        pass "$1: film not built"
+    else
+        fail "$1" "status $status, said '$said', noted '$(head -c 200 "$work/notes")'"
+    fi
+}
+
+# another stream of another codec beside the sound, or else a second one of sound
+multiplexed() {
+    if have opusenc opus-tools; then
+        sox -R -n -r 48000 -c 1 -b 16 "$work/other.wav" synth 5 pinknoise vol 0.5
+        opusenc --quiet "$work/other.wav" "$work/other.ogg"
+    else
+        make other 77 1 48000 5 1
+    fi
+    oggz-merge -o "$work/multiplexed.ogg" "$work/mono.ogg" "$work/other.ogg"
+}
+
+make mono 1 1 44100 3 0
+counts mono 1 1 44100
+make second 4000000000 2 44100 1 3
+counts second 4000000000 2 44100
+{
+    head -c 1024 /dev/urandom
+    cat "$work/mono.ogg"
+} >"$work/garbage_before.ogg"
+counts garbage_before 1 1 44100
+size=$(stat -c %s "$work/mono.ogg")
+head -c $((size - 1000)) "$work/mono.ogg" >"$work/cut_short.ogg"
+counts cut_short 1 1 44100 cut
+
+if [ -z "$small" ]; then
+    make low_rate 8 1 8000 20 1
+    counts low_rate 8 1 8000
+    make stereo 9 2 48000 60 5
+    counts stereo 9 2 48000
+    make worst_quality 10 2 44100 20 -1
+    counts worst_quality 10 2 44100
+    make best_quality 11 2 44100 20 10
+    counts best_quality 11 2 44100
+    make three_channels 12 3 22050 10 4
+    counts three_channels 12 3 22050
+    make four_channels 13 4 44100 10 2
+    counts four_channels 13 4 44100
+    make five_channels 14 5 44100 10 2
+    counts five_channels 14 5 44100
+    make six_channels 2147483648 6 48000 10 6
+    counts six_channels 2147483648 6 48000
+    multiplexed
+    refused multiplexed
+    cat "$work/mono.ogg" "$work/stereo.ogg" >"$work/chain.ogg"
+    refused chain
+fi
+
+echo "$passed passed, $failed failed"
+[ "$failed" = 0 ]
