@@ -66,35 +66,43 @@ info() {
     said=$("$PLAYER" info "$work/$1.ogg" 2>"$work/notes") || status=$?
 }
 
-# counts NAME SERIAL CHANNELS RATE [cut]: the program's counts are those of oggz-info, and the stream is the one that
-# ogginfo tells of. A film that is cut short may have lost the packet that was open at its end.
-counts() {
-    local name=$1 serial=$2 channels=$3 rate=$4 cut=${5:-} told heard pages packets expected
-    info "$name"
-    told=$(oggz-info "$work/$name.ogg" 2>/dev/null || true)
-    heard=$(ogginfo "$work/$name.ogg" 2>&1 || true)
-    read -r packets pages < <(sed -n 's/^\t\([0-9]*\) packets in \([0-9]*\) pages.*/\1 \2/p' <<<"$told") || true
-    expected="link 0 serial $serial pages $pages packets $packets lost 0"
+# expected FILE LINK SERIAL CHANNELS RATE: the two lines that are wanted of a link, by the pages and packets that oggz-info
+# tells of the Vorbis stream of a file; only the sizes of its blocks are left open
+expected() {
+    local packets pages
+    read -r packets pages < <(oggz-info "$work/$1.ogg" 2>/dev/null |
+        sed -n '/^Vorbis/,$ s/^\t\([0-9]*\) packets in \([0-9]*\) pages.*/\1 \2/p' | head -n 1) || true
+    echo "link $2 serial $3 pages $pages packets $packets lost 0"
+    echo "head $2 channels $4 rate $5 blocks [0-9]+ [0-9]+"
+}
+
+# heard NAME SERIAL CHANNELS RATE: ogginfo tells of such a Vorbis stream
+heard() {
+    local told
+    told=$(ogginfo "$work/$1.ogg" 2>&1 || true)
+    grep -q "^New logical stream (#[0-9]*, serial: 0*$(printf '%x' "$2")): type vorbis\$" <<<"$told" &&
+        grep -q "^Channels: $3\$" <<<"$told" && grep -q "^Rate: $4\$" <<<"$told"
+}
+
+# says NAME LINES [cut]: the program says these lines of a film. One that is cut short may have lost the packet that was
+# open at its end.
+says() {
+    info "$1"
     if [ "$status" != 0 ]; then
-        fail "$name" "status $status, $(head -c 200 "$work/notes")"
-    elif ! grep -q "^New logical stream (#1, serial: 0*$(printf '%x' "$serial")): type vorbis\$" <<<"$heard"; then
-        fail "$name" "ogginfo tells of another stream"
-    elif ! grep -q "^Channels: $channels\$" <<<"$heard" || ! grep -q "^Rate: $rate\$" <<<"$heard"; then
-        fail "$name" "ogginfo tells of other channels or another rate"
-    elif [ "$said" = "$expected" ] || { [ -n "$cut" ] && [ "$said" = "${expected%0}1" ]; }; then
-        pass "$name: $said"
+        fail "$1" "status $status, $(head -c 200 "$work/notes")"
+    elif [[ $said =~ ^$2$ ]] || { [ -n "${3:-}" ] && [[ $said =~ ^${2/lost 0/lost 1}$ ]]; }; then
+        pass "$1: ${said//$'\n'/; }"
     else
-        fail "$name" "said '$said', expected '$expected'"
+        fail "$1" "said '$said', expected '$2'"
     fi
 }
 
-# refused NAME: the film is one that isn't taken yet
-refused() {
-    info "$1"
-    if [ "$status" = 5 ] && [ -z "$said" ] && grep -q 'film not built' "$work/notes"; then
-        pass "$1: film not built"
+# counts NAME SERIAL CHANNELS RATE [cut]: the program and the other two agree on a film of one link
+counts() {
+    if heard "$1" "$2" "$3" "$4"; then
+        says "$1" "$(expected "$1" 0 "$2" "$3" "$4")" "${5:-}"
     else
-        fail "$1" "status $status, said '$said', noted '$(head -c 200 "$work/notes")'"
+        fail "$1" "ogginfo tells of another stream"
     fi
 }
 
@@ -139,11 +147,17 @@ if [ -z "$small" ]; then
     counts five_channels 14 5 44100
     make six_channels 2147483648 6 48000 10 6
     counts six_channels 2147483648 6 48000
+    # oggz-info miscounts the packets of a multiplexed film, so the stream's own film is asked
     multiplexed
-    refused multiplexed
-    cat "$work/mono.ogg" "$work/stereo.ogg" >"$work/chain.ogg"
-    refused chain
+    if heard multiplexed 1 1 44100; then
+        says multiplexed "$(expected mono 0 1 1 44100)"
+    else
+        fail multiplexed "ogginfo tells of another stream"
+    fi
 fi
+cat "$work/mono.ogg" "$work/second.ogg" >"$work/chain.ogg"
+says chain "$(expected mono 0 1 1 44100)
+$(expected second 1 4000000000 2 44100)"
 
 echo "$passed passed, $failed failed"
 [ "$failed" = 0 ]

@@ -68,6 +68,11 @@ def base(*packets, granule=32, serial=1, rate=8000):
 
 
 F = base(S, S)
+WRONG_COMMENT = COMMENT[:-1] + b"\0"
+
+
+def with_heads(first, second):
+    return page(FIRST, 0, [first]) + page(0, 1, [second, SETUP]) + page(LAST, 2, [S, S], granule=32)
 
 
 def changed(film, place):
@@ -94,6 +99,15 @@ FILMS = {
     "CONTINUES_NOTHING": heads() + page(CONTINUED, 2, [S, S, S], granule=32) + page(LAST, 3, [S], granule=64),
     "EMPTY_PAGE": heads() + page(0, 2, [bytes(255)], granule=NONE, open_end=True) + page(CONTINUED, 3, [], granule=NONE)
     + page(CONTINUED | LAST, 4, [bytes(3)], granule=32),
+    "NO_SECOND_PAGE": page(FIRST, 0, [ident()]) + page(LAST, 2, [S, S], granule=32),
+    "FIRST_PAGE_ALONE": page(FIRST, 0, [ident()]),
+    "PAGES_EXCHANGED": page(0, 1, [COMMENT, SETUP]) + page(FIRST, 0, [ident()]) + page(LAST, 2, [S, S], granule=32),
+    "NINE_CHANNELS": with_heads(ident(channels=9), COMMENT),
+    "NINE_CHANNELS_AND_COMMENT": with_heads(ident(channels=9), WRONG_COMMENT),
+    "WRONG_COMMENT": with_heads(ident(), WRONG_COMMENT),
+    "WRONG_VERSION": with_heads(b"\x01vorbis\1" + ident()[8:], COMMENT),
+    "TWO_STREAMS": page(FIRST, 0, [b"OpusHead"], serial=5) + page(FIRST, 0, [ident(channels=2)])
+    + page(0, 1, [b"OpusTags"], serial=5) + page(0, 1, [COMMENT, SETUP]) + page(LAST, 2, [S, S], granule=32),
     "NUMBERS_WRAP": page(FIRST, 2**32 - 2, [ident()]) + page(0, 2**32 - 1, [COMMENT, SETUP])
     + page(LAST, 0, [S, S], granule=32),
     # small films for examples by computation

@@ -89,9 +89,9 @@ fn number_links(alloc: Global, bytes: &[u8], pages: &[PageRef]) -> Result<Vec<Li
     Ok(links)
 }
 
-/// The links of a film, in order, by the numbers of their pages, each with the serial number of its Vorbis stream. These
-/// are the pages of the bytes, in order. A link begins at a first page that follows no first page; the pages before the
-/// first link belong to none. Every page is looked at once, but a link's first pages twice.
+/// The links of a film, in order, by the numbers of their pages, each with the serial number of its Vorbis stream. The
+/// pages are pages of these bytes, in order. A link begins at a first page that follows no first page, and goes up to the
+/// next such place; the pages before the first link belong to none. The time taken grows with the number of pages.
 ///
 /// # Errors
 ///

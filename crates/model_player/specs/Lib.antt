@@ -1,4 +1,4 @@
 pub mod Commands
-pub mod Look
+pub mod Film
 pub mod Texts
 pub mod Outcome

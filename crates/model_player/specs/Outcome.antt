@@ -3,13 +3,13 @@ use Rattle.std.specs.Prelude.{◌≡◌, ℕ, ◌^◌, ◌≤◌, ◌⊎◌, nat
 use Rattle.std.specs.Io.KnownBytes.{Appends, Keeps}
 use Rattle.vf_outside.specs.Told.{Told, MayGive, MayBeTooLong, AppendsPart}
 use Rattle.vf_outside.specs.Faults.{Rose}
-use Rattle.model_player.specs.declared.line.LinkLine.{LinkLine}
-use Rattle.model_player.specs.declared.line.LookFault.{LookFault}
+use Rattle.model_player.specs.declared.line.LinkTold.{LinkTold}
+use Rattle.model_player.specs.declared.film.FilmFault.{FilmFault}
 use Rattle.model_player.specs.declared.status.Status.{Status}
 use Rattle.model_player.specs.declared.status.Status.TheVariants as statuses
 use Rattle.model_player.specs.Commands.{Command, info}
 use Rattle.model_player.specs.Texts.{usage_line, memory_line, cannot_read_line, too_long_line, fault_line, info_text}
-use Rattle.model_player.specs.Look.{look}
+use Rattle.model_player.specs.Film.{film_told}
 
 -- the most bytes that a film may have
 abbrev pub film_limit : ℕ
@@ -36,14 +36,14 @@ pub record MayHave (told : Told) (film : List ℕ) : Type 0 where
 -- The output of a command is due: the film may have bytes that are taken, and these are its lines.
 abbrev pub OutputDue : Option Command → ShelfRun → List ℕ → Type 0
 OutputDue None shelf bytes = ⊥
-OutputDue (Some (info name)) shelf bytes = (film : List ℕ) × (line : LinkLine) × MayHave (shelf.told name) film × (look film ≡ Ok line) × (bytes ≡ info_text line)
+OutputDue (Some (info name)) shelf bytes = (film : List ℕ) × (links : List LinkTold) × MayHave (shelf.told name) film × (film_told film ≡ Ok links) × (bytes ≡ info_text links)
 
 -- A refusal with this status and this line is due, for this cause.
 abbrev pub RefusalDue : Option Command → ShelfRun → Status → List ℕ → Type 0
 RefusalDue None shelf statuses.Usage line = line ≡ usage_line
 RefusalDue (Some (info name)) shelf statuses.Input line = Rose (shelf.before name) (shelf.now name) × (line ≡ cannot_read_line name)
 RefusalDue (Some (info name)) shelf statuses.TooLong line = MayBeTooLong (shelf.told name) film_limit × (line ≡ too_long_line name film_limit)
-RefusalDue (Some (info name)) shelf statuses.Film line = (film : List ℕ) × (fault : LookFault) × MayHave (shelf.told name) film × (look film ≡ Err fault) × (line ≡ fault_line fault)
+RefusalDue (Some (info name)) shelf statuses.Film line = (film : List ℕ) × (fault : FilmFault) × MayHave (shelf.told name) film × (film_told film ≡ Err fault) × (line ≡ fault_line fault)
 RefusalDue command shelf status line = ⊥
 
 -- A refusal: its line is on `notes`, and nothing on `out`.
@@ -76,12 +76,12 @@ pub data Duty : Type 0 where
   writes : List ℕ → Duty
   refuses : Status → List ℕ → Duty
 
-abbrev pub look_duty : Result LinkLine LookFault → Duty
-look_duty (Ok line) = writes (info_text line)
-look_duty (Err fault) = refuses statuses.Film (fault_line fault)
+abbrev pub told_duty : Result (List LinkTold) FilmFault → Duty
+told_duty (Ok links) = writes (info_text links)
+told_duty (Err fault) = refuses statuses.Film (fault_line fault)
 
 abbrev pub film_duty : List ℕ → List ℕ → Duty
-film_duty name film = if nat_lt film_limit (length film) then refuses statuses.TooLong (too_long_line name film_limit) else look_duty (look film)
+film_duty name film = if nat_lt film_limit (length film) then refuses statuses.TooLong (too_long_line name film_limit) else told_duty (film_told film)
 
 -- of words, and of the film's bytes where the words name a film
 abbrev pub duty_of : Option Command → List ℕ → Duty

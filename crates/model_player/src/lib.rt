@@ -2,8 +2,10 @@
 //! with their causes.
 #![tactic(auto)]
 
+mod film;
 mod line;
 mod status;
 
-pub use line::{LinkLine, LookFault};
+pub use film::FilmFault;
+pub use line::{HeadLine, LinkLine, LinkTold};
 pub use status::Status;

@@ -6,7 +6,7 @@ use Rattle.vf_outside.specs.Told.{Told, MayBeTooLong}
 use Rattle.model_player.specs.declared.status.Status.{Status}
 use Rattle.model_player.specs.declared.status.Status.TheVariants as statuses
 use Rattle.model_player.specs.Commands.{Command, info}
-use Rattle.model_player.specs.Look.{look}
+use Rattle.model_player.specs.Film.{film_told}
 use Rattle.model_player.specs.Outcome.{ShelfRun, SinkRun, MayHave, Outcome, Completes, film_limit}
 
 -- the film is the one that is told
@@ -21,7 +21,7 @@ complete None shelf out notes statuses.Ok o = absurd o.1
 complete (Some (info name)) shelf out notes statuses.Ok o = λ film told no-out no-notes.
     let due = o.1 in
     let same = same_film (shelf.told name) film due.0 told.0 due.2 in
-    let looked : look film ≡ Ok due.1 = ap look (sym same) ∙ due.3 in
+    let looked : film_told film ≡ Ok due.1 = ap film_told (sym same) ∙ due.3 in
     let short : length film ≤ film_limit = subst (λ (f : List ℕ). length f ≤ film_limit) same due.2.short in
     inl (rw (le-ltb film_limit (length film) short, looked) (refl, subst (λ (b : List ℕ). Appends out.old out.new b) due.4 o.2, o.3))
 complete None shelf out notes statuses.Usage o = λ film told no-out no-notes. inl (refl, subst (λ (b : List ℕ). Appends notes.old notes.new b) o.1 o.2, o.3)
@@ -36,7 +36,7 @@ complete None shelf out notes statuses.Film o = absurd o.1
 complete (Some (info name)) shelf out notes statuses.Film o = λ film told no-out no-notes.
     let due = o.1 in
     let same = same_film (shelf.told name) film due.0 told.0 due.2 in
-    let looked : look film ≡ Err due.1 = ap look (sym same) ∙ due.3 in
+    let looked : film_told film ≡ Err due.1 = ap film_told (sym same) ∙ due.3 in
     let short : length film ≤ film_limit = subst (λ (f : List ℕ). length f ≤ film_limit) same due.2.short in
     inl (rw (le-ltb film_limit (length film) short, looked) (refl, subst (λ (b : List ℕ). Appends notes.old notes.new b) due.4 o.2, o.3))
 complete command shelf out notes statuses.Output (inl broken) = λ film told no-out no-notes. absurd (no-out broken.2)

@@ -46,8 +46,10 @@ fn assert_ends(rt: &impl Abort, case: &str, run: &Run, status: Status, out: &[u8
     assert_eq!(rt; run.notes.written(), notes, "{case}");
 }
 
+const HEAD: &str = "head 0 channels 1 rate 8000 blocks 64 64\n";
+
 #[test]
-fn films_that_are_taken(rt: HostRuntime) -> Result<(), Fail> {
+fn films_of_one_link(rt: HostRuntime) -> Result<(), Fail> {
     let rows = [
         ("base", films::BASE.as_slice(), "pages 3 packets 5 lost 0"),
         (
@@ -103,69 +105,153 @@ fn films_that_are_taken(rt: HostRuntime) -> Result<(), Fail> {
     ];
     for (case, film, counts) in rows {
         let run = run_words(rt.alloc(), &["info", "f"], film, &[], &[], &[])?;
-        let line = format!(in rt.alloc(); "link 0 serial 1 {counts}\n")?;
-        assert_ends(&rt, case, &run, Status::Ok, line.as_bytes(), b"");
+        let lines = format!(in rt.alloc(); "link 0 serial 1 {counts}\n{HEAD}")?;
+        assert_ends(&rt, case, &run, Status::Ok, lines.as_bytes(), b"");
     }
     Ok(())
+}
+
+#[test]
+fn chains_and_streams(rt: HostRuntime) -> Result<(), Fail> {
+    let chain = run_words(rt.alloc(), &["info", "f"], &films::CHAIN, &[], &[], &[])?;
+    let lines = b"link 0 serial 1 pages 3 packets 6 lost 0
+head 0 channels 1 rate 8000 blocks 64 64
+link 1 serial 2 pages 3 packets 6 lost 0
+head 1 channels 1 rate 16000 blocks 64 64
+";
+    assert_ends(&rt, "a chain", &chain, Status::Ok, lines, b"");
+    let streams = run_words(
+        rt.alloc(),
+        &["info", "f"],
+        &films::TWO_STREAMS,
+        &[],
+        &[],
+        &[],
+    )?;
+    let lines = b"link 0 serial 1 pages 3 packets 5 lost 0
+head 0 channels 2 rate 8000 blocks 64 64
+";
+    assert_ends(&rt, "two streams", &streams, Status::Ok, lines, b"");
+
+    let most = base_films(rt.alloc(), 4096)?;
+    let most = run_words(rt.alloc(), &["info", "f"], &most, &[], &[], &[])?;
+    assert_eq!(rt; most.status, Status::Ok);
+    let many = base_films(rt.alloc(), 4097)?;
+    let many = run_words(rt.alloc(), &["info", "f"], &many, &[], &[], &[])?;
+    assert_ends(
+        &rt,
+        "4097 links",
+        &many,
+        Status::Film,
+        b"",
+        b"film too many links\n",
+    );
+    Ok(())
+}
+
+// So many base films, one after the other.
+fn base_films(alloc: Global, count: u32) -> Result<Vec<u8>, AllocError> {
+    let mut chain = Vec::new(alloc);
+    for _ in 0..count {
+        chain.extend_from_slice(&films::BASE)?;
+    }
+    Ok(chain)
 }
 
 #[test]
 fn refusals(rt: HostRuntime) -> Result<(), Fail> {
     let film = films::BASE.as_slice();
     let rows = [
-        (
-            "no words",
-            [].as_slice(),
-            film,
-            Status::Usage,
-            b"usage\n".as_slice(),
-        ),
+        ("no words", [].as_slice(), film, Status::Usage, "usage"),
         (
             "two names",
             ["info", "a", "b"].as_slice(),
             film,
             Status::Usage,
-            b"usage\n".as_slice(),
+            "usage",
         ),
         (
             "another word",
             ["inf", "f"].as_slice(),
             film,
             Status::Usage,
-            b"usage\n".as_slice(),
+            "usage",
         ),
         (
             "no such name",
             ["info", "g"].as_slice(),
             film,
             Status::Input,
-            b"cannot read g\n".as_slice(),
+            "cannot read g",
         ),
         (
             "no bytes",
             ["info", "f"].as_slice(),
             [].as_slice(),
             Status::Film,
-            b"film no link\n".as_slice(),
-        ),
-        (
-            "a chain",
-            ["info", "f"].as_slice(),
-            films::CHAIN.as_slice(),
-            Status::Film,
-            b"film not built\n".as_slice(),
+            "film no link",
         ),
         (
             "another codec",
             ["info", "f"].as_slice(),
             films::NO_VORBIS.as_slice(),
             Status::Film,
-            b"film not built\n".as_slice(),
+            "film link 0 no vorbis",
+        ),
+        (
+            "no second page",
+            ["info", "f"].as_slice(),
+            films::NO_SECOND_PAGE.as_slice(),
+            Status::Film,
+            "film link 0 headers missing",
+        ),
+        (
+            "one page",
+            ["info", "f"].as_slice(),
+            films::FIRST_PAGE_ALONE.as_slice(),
+            Status::Film,
+            "film link 0 headers missing",
+        ),
+        (
+            "pages exchanged",
+            ["info", "f"].as_slice(),
+            films::PAGES_EXCHANGED.as_slice(),
+            Status::Film,
+            "film link 0 headers missing",
+        ),
+        (
+            "nine channels",
+            ["info", "f"].as_slice(),
+            films::NINE_CHANNELS.as_slice(),
+            Status::Film,
+            "film link 0 channels 9",
+        ),
+        (
+            "channels and comment",
+            ["info", "f"].as_slice(),
+            films::NINE_CHANNELS_AND_COMMENT.as_slice(),
+            Status::Film,
+            "film link 0 channels 9",
+        ),
+        (
+            "a comment",
+            ["info", "f"].as_slice(),
+            films::WRONG_COMMENT.as_slice(),
+            Status::Film,
+            "film link 0 comment framing",
+        ),
+        (
+            "a version",
+            ["info", "f"].as_slice(),
+            films::WRONG_VERSION.as_slice(),
+            Status::Film,
+            "film link 0 ident version",
         ),
     ];
-    for (case, words, film, status, line) in rows {
+    for (case, words, film, status, text) in rows {
+        let line = format!(in rt.alloc(); "{text}\n")?;
         let told = run_words(rt.alloc(), words, film, &[], &[], &[])?;
-        assert_ends(&rt, case, &told, status, b"", line);
+        assert_ends(&rt, case, &told, status, b"", line.as_bytes());
         let untold = run_words(rt.alloc(), words, film, &[], &[], &[1])?;
         assert_ends(&rt, case, &untold, Status::Output, b"", b"");
     }
@@ -175,7 +261,8 @@ fn refusals(rt: HostRuntime) -> Result<(), Fail> {
 #[test]
 fn faults_of_the_outside(rt: HostRuntime) -> Result<(), Fail> {
     let words = ["info", "f"];
-    let unread = run_words(rt.alloc(), &words, &films::BASE, &[1], &[], &[])?;
+    let film = films::BASE.as_slice();
+    let unread = run_words(rt.alloc(), &words, film, &[1], &[], &[])?;
     assert_ends(
         &rt,
         "a failed fetch",
@@ -184,16 +271,9 @@ fn faults_of_the_outside(rt: HostRuntime) -> Result<(), Fail> {
         b"",
         b"cannot read f\n",
     );
-    let later = run_words(rt.alloc(), &words, &films::BASE, &[2], &[2], &[1])?;
-    assert_ends(
-        &rt,
-        "later calls",
-        &later,
-        Status::Ok,
-        b"link 0 serial 1 pages 3 packets 5 lost 0\n",
-        b"",
-    );
-    let unwritten = run_words(rt.alloc(), &words, &films::BASE, &[], &[1], &[])?;
+    let later = run_words(rt.alloc(), &words, film, &[2], &[2], &[1])?;
+    assert_eq!(rt; later.status, Status::Ok);
+    let unwritten = run_words(rt.alloc(), &words, film, &[], &[1], &[])?;
     assert_ends(&rt, "a failed put", &unwritten, Status::Output, b"", b"");
     Ok(())
 }
@@ -208,11 +288,9 @@ fn nothing_fails_over_a_clean_shelf(rt: HostRuntime) -> Result<(), Fail> {
     let mut out = CleanSink::new(alloc);
     let mut notes = CleanSink::new(alloc);
     let status = player_alone(alloc, &words, &mut shelf, &mut out, &mut notes);
+    let lines = format!(in alloc; "link 0 serial 1 pages 3 packets 5 lost 0\n{HEAD}")?;
     assert_eq!(rt; status, Some(Status::Ok));
-    assert_eq!(rt;
-        out.written(),
-        b"link 0 serial 1 pages 3 packets 5 lost 0\n".as_slice()
-    );
+    assert_eq!(rt; out.written(), lines.as_bytes());
     assert_eq!(rt; notes.written(), b"".as_slice());
     Ok(())
 }

@@ -1,4 +1,4 @@
-use Rattle.std.proofs.Common.{◌≡◌, ◌+◌, ◌-◌, true, List, None, Some, length, refl, take, drop, ap, sym, ◌∙◌, arith}
+use Rattle.std.proofs.Common.{◌≡◌, ◌-◌, true, List, None, Some, length, refl, take, drop, ap, sym, ◌∙◌, arith}
 use Rattle.std.proofs.lemmas.List.{take_rest}
 use Rattle.model_ogg.specs.declared.page.PageRef.{PageRef}
 use Rattle.model_ogg.specs.Links.{up_to_link, played}

@@ -1,4 +1,4 @@
-use Rattle.std.proofs.Common.{◌≡◌, false, length, ap, sym, ◌∙◌, arith, length-append, ◌∷◌, []}
+use Rattle.std.proofs.Common.{◌≡◌, false, length, arith, length-append, ◌∷◌, []}
 use Rattle.std.proofs.lemmas.Result.{err_from_is_err_and}
 use Rattle.model_ogg.proofs.LinkLaws.{up_to_link-behind, up_to_link-within}
 use Rattle.chain_links.proofs.LinkSteps.{links_begin, link_found, next_begins, link_refuses, links_end}

@@ -1,6 +1,6 @@
 use Rattle.std.proofs.Common.{◌≡◌, ◌+◌, ◌≤◌, length, drop}
 use Rattle.model_ogg.specs.Streams.{stream_of}
-use Rattle.player_session.proofs.looking.stream_len.Given as goal
+use Rattle.player_session.proofs.film.stream_len.Given as goal
 
 abbrev pub invariant-loop-page : goal.invariant-loop-page
 invariant-loop-page l = record {

@@ -1,0 +1,78 @@
+ghost use Rattle.std.specs.Prelude.{◌≡◌};
+ghost use Rattle.model_player.specs.declared.film.FilmFault.TheVariants.{Memory};
+
+use model_setup::{CommentCause, IdentCause};
+use sequence::NoMemory;
+use std::alloc::{AllocError, AllocFailed};
+use std::error::Error;
+use std::fmt;
+
+/// Why a film is refused.
+#[derive(Clone, Copy, Debug, PartialEq, Eq)]
+pub enum FilmFault {
+    /// No page is the first of a stream.
+    NoLink,
+    /// A link has no Vorbis stream.
+    NoVorbis { link: u32 },
+    /// A loss, or the stream's end, comes before a link's third packet.
+    HeadMissing { link: u32 },
+    /// A link's first packet is no identification.
+    Ident { link: u32, cause: IdentCause },
+    /// A link's second packet is no comment.
+    Comment { link: u32, cause: CommentCause },
+    /// A link has more than 8 channels.
+    Channels { link: u32, n: u8 },
+    /// There are more than 4096 links.
+    TooManyLinks,
+    /// There are more than 2^22 packets and losses.
+    TooManyPackets,
+    /// No memory was found.
+    Memory,
+}
+
+impl fmt::Display for FilmFault {
+    ghost use Rattle.std.specs.Prelude.{Some};
+    ghost use Rattle.model_player.specs.Texts.{fault_text};
+
+    ghost output = { λ s. Some (fault_text s) };
+
+    fn fmt<W: fmt::Write>(&self, f: &mut fmt::Formatter<W>) -> fmt::Result {
+        match *self {
+            FilmFault::NoLink => write!(f, "film no link"),
+            FilmFault::NoVorbis { link } => write!(f, "film link {link} no vorbis"),
+            FilmFault::HeadMissing { link } => write!(f, "film link {link} headers missing"),
+            FilmFault::Ident { link, cause } => write!(f, "film link {link} ident {cause}"),
+            FilmFault::Comment { link, cause } => write!(f, "film link {link} comment {cause}"),
+            FilmFault::Channels { link, n } => write!(f, "film link {link} channels {n}"),
+            FilmFault::TooManyLinks => write!(f, "film too many links"),
+            FilmFault::TooManyPackets => write!(f, "film too many packets"),
+            FilmFault::Memory => write!(f, "memory"),
+        }
+    }
+}
+
+impl Error for FilmFault {}
+
+impl From<NoMemory> for FilmFault {
+    ghost from_gives = { λ _ e. e ≡ Memory };
+
+    fn from(_: NoMemory) -> Self {
+        FilmFault::Memory
+    }
+}
+
+impl From<AllocError> for FilmFault {
+    ghost from_gives = { λ _ e. e ≡ Memory };
+
+    fn from(_: AllocError) -> Self {
+        FilmFault::Memory
+    }
+}
+
+impl<T: Drop> From<AllocFailed<T>> for FilmFault {
+    ghost from_gives = { λ _ e. e ≡ Memory };
+
+    fn from(_: AllocFailed<T>) -> Self {
+        FilmFault::Memory
+    }
+}
