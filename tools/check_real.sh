@@ -147,6 +147,10 @@ if [ -z "$small" ]; then
     counts five_channels 14 5 44100
     make six_channels 2147483648 6 48000 10 6
     counts six_channels 2147483648 6 48000
+    cat "$work/low_rate.ogg" "$work/stereo.ogg" "$work/six_channels.ogg" >"$work/three_links.ogg"
+    says three_links "$(expected low_rate 0 8 1 8000)
+$(expected stereo 1 9 2 48000)
+$(expected six_channels 2 2147483648 6 48000)"
     # oggz-info miscounts the packets of a multiplexed film, so the stream's own film is asked
     multiplexed
     if heard multiplexed 1 1 44100; then
