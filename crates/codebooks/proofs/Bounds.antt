@@ -1,5 +1,5 @@
 -- The entries that are read are the book's.
-use Rattle.std.proofs.Common.{◌≡◌, ℕ, ◌<◌, List, [], ◌∷◌, Option, Some, None, Bool, ap, sym, subst, arith, IfSome}
+use Rattle.std.proofs.Common.{◌≡◌, ℕ, ◌<◌, ◌^◌, List, [], ◌∷◌, Option, Some, None, Bool, ap, sym, subst, arith, IfSome}
 use Rattle.std.specs.List.{find, All}
 use Rattle.std.proofs.lemmas.Option.{none-some, some_pair_parts}
 use Rattle.model_setup.specs.declared.book.Word.{Word}
@@ -27,3 +27,7 @@ entry_below (word ∷ more ∷ words) left rest e n all h = begun_below (word �
 pub read_below : (words : List Word) (left rest : List Bool) (n : ℕ) (o : Option ℕ) → All (λ w. w.entry < n) words → IfSome o (λ e. entry_by words left ≡ Some (e, rest)) → IfSome o (λ e. e < n)
 read_below words left rest n None all h = h
 read_below words left rest n (Some e) all h = entry_below words left rest e n all h
+
+pub all_below : (o : Option ℕ) (n : ℕ) → n < 2 ^ 24 → IfSome o (λ e. e < n) → IfSome o (λ e. e < 2 ^ 24)
+all_below None n few h = h
+all_below (Some e) n few h = omega (arith, h)

@@ -8,3 +8,4 @@ pub mod Comparisons
 pub mod Scales
 pub mod Bounds
 pub mod Fills
+pub mod SmallVectors

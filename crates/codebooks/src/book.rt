@@ -1,4 +1,4 @@
-ghost use Rattle.std.specs.Prelude.{◌≡◌, ◌≤◌, ◌<◌, ◌^◌, length, [], Some, None, IfSome, IfNone, IfOk, OnSome, IsSome, IsTrue, is_some};
+ghost use Rattle.std.specs.Prelude.{◌≡◌, ◌≤◌, ◌<◌, ◌^◌, length, [], Some, None, IfSome, IfNone, IfOk, OnSome, IsSome, is_some, unsigned_abs};
 ghost use Rattle.std.specs.List.{All};
 ghost use Rattle.model_setup.specs.Codewords.{book_words, entry_at};
 ghost use Rattle.model_setup.specs.Vectors.{vector_at};
@@ -125,14 +125,16 @@ impl Book {
 
     /// How many values the vector of an entry has.
     pub fn dimensions(&self) -> u32
-        ensures { result ≡ self.now.dimensions }
+        ensures dimensions { result ≡ self.now.dimensions }
+        ensures below { result < 2 ^ 16 }
     {
         u32::from(self.dimensions)
     }
 
     /// How many entries the book has, used or not.
     pub fn entries(&self) -> u32
-        ensures { result ≡ length self.now.lengths }
+        ensures entries { result ≡ length self.now.lengths }
+        ensures below { result < 2 ^ 24 }
     {
         self.lengths.len() as u32
     }
@@ -150,6 +152,7 @@ impl Book {
     pub fn entry(&self, bits: &mut Bits) -> Option<u32>
         ensures found { IfSome result (λ e. entry_at self.now.lengths bits.old.left ≡ Some (e, bits.new.left)) }
         ensures below { IfSome result (λ e. e < length self.now.lengths) }
+        ensures small { IfSome result (λ e. e < 2 ^ 24) }
         ensures ended { IfNone result (entry_at self.now.lengths bits.old.left ≡ None) }
         ensures finished { IfNone result (bits.new.left ≡ []) }
     {
@@ -166,6 +169,7 @@ impl Book {
         ensures ended { IfNone result (vector_at self.now bits.old.left ≡ None) }
         ensures finished { IfNone result (bits.new.left ≡ []) }
         ensures kept { IfNone result (out.new ≡ out.old) }
+        ensures small { OnSome result (All (λ v. unsigned_abs v ≤ 2 ^ 32) out.new) }
     {
         let entry = self.entry(bits)?;
         if let Some(table) = &self.table {

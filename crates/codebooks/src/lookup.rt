@@ -1,4 +1,5 @@
 ghost use Rattle.std.specs.Prelude.{◌≡◌, ◌≤◌, ◌<◌, ◌^◌, ◌+◌, ◌*◌, length, IfOk, IsSome, Some, nat_le, unsigned_abs, List};
+ghost use Rattle.std.specs.List.{All};
 ghost use Rattle.model_bits.specs.Reading.{times};
 ghost use Rattle.model_setup.specs.declared.book.LookupKind.{LookupKind};
 ghost use Rattle.model_setup.specs.BookReading.{ReadsAs, field, table_at, lookup_at, multiplicands_of};
@@ -208,7 +209,8 @@ impl Table {
     /// Writes the vector of an entry.
     pub fn fill(&self, entry: u32, out: &mut [i64])
         requires { HasRoom self.now (length out.old) entry }
-        ensures { out.new ≡ vector_of (length out.old) self.now entry }
+        ensures vector { out.new ≡ vector_of (length out.old) self.now entry }
+        ensures small { All (λ v. unsigned_abs v ≤ 2 ^ 32) out.new }
     {
         match self.kind {
             LookupKind::Lattice => self.fill_by_digits(entry, out),

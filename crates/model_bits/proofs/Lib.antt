@@ -5,3 +5,4 @@ pub mod Numbers
 pub mod Times
 pub mod Repeat
 pub mod Examples
+pub mod Each

@@ -2,11 +2,7 @@
 use Rattle.std.proofs.Common.{◌≡◌, ℕ, suc, ◌-◌, ◌+◌, ◌≤◌, ◌<◌, List, [], ◌∷◌, ◌++◌, Result, Ok, Err, refl, sym, ap, ◌∙◌, append_assoc, arith, Bool, zero, length, subst}
 use Rattle.std.proofs.lemmas.List.{append-nil}
 use Rattle.model_bits.specs.Reading.{times, then_read, give}
-
--- what was read before, and what is still read
-abbrev pub with_front : {E A : Type 0} → List A → Result (List A × List Bool) E → Result (List A × List Bool) E
-with_front front (Ok x) = Ok (front ++ x.0, x.1)
-with_front front (Err e) = Err e
+pub use Rattle.model_bits.specs.Reading.{with_front}
 
 regroup : {E A : Type 0} (front : List A) (x : A) (reading : Result (List A × List Bool) E) → with_front front (then_read reading (λ xs. give (x ∷ xs))) ≡ with_front (front ++ x ∷ []) reading
 regroup front x (Ok y) = ap (λ ns. Ok (ns, y.1)) (sym (append_assoc front (x ∷ []) y.0))

@@ -1,5 +1,5 @@
 -- Reading fields one after the other from the bits that are left, up to the first cause of a refusal.
-use Rattle.std.specs.Prelude.{◌≡◌, ℕ, zero, suc, List, [], ◌∷◌, Option, Some, None, Result, Ok, Err, Bool, if◌then◌else◌}
+use Rattle.std.specs.Prelude.{◌≡◌, ℕ, zero, suc, List, [], ◌∷◌, ◌++◌, Option, Some, None, Result, Ok, Err, Bool, if◌then◌else◌}
 use Rattle.model_bits.specs.Bits.{BitReader, take_bits}
 
 -- what is read from the bits that are left: a value and the bits after it, or the first cause
@@ -48,6 +48,19 @@ times (suc n) m = do
   xs ← times n m
   give (x ∷ xs)
 
+-- a value for each item of a list, in order
+abbrev pub each : {E X A : Type 0} → (X → Reading E A) → List X → Reading E (List A)
+each m [] = give []
+each m (x ∷ xs) = do
+  y ← m x
+  ys ← each m xs
+  give (y ∷ ys)
+
+-- values that were read before, and those that are still read
+abbrev pub with_front : {E A : Type 0} → List A → Result (List A × List Bool) E → Result (List A × List Bool) E
+with_front front (Ok x) = Ok (front ++ x.0, x.1)
+with_front front (Err e) = Err e
+
 -- so many values in a row, with a state that goes from each to the next
 abbrev pub repeat : {E S A : Type 0} → ℕ → (S → Reading E (A × S)) → S → Reading E (List A × S)
 repeat zero m s = give ([], s)
@@ -68,6 +81,19 @@ relabel f m left = renamed f (m left)
 abbrev pub value_of : {E A : Type 0} → Result (A × List Bool) E → Result A E
 value_of (Ok x) = Ok x.0
 value_of (Err e) = Err e
+
+-- A reading of a packet whose one cause is the end of the packet.
+abbrev pub PacketReading : Type 0 → Type 0
+PacketReading A = Reading (Unit {0}) A
+
+-- so many bits of such a packet
+abbrev pub packet_bits : ℕ → PacketReading ℕ
+packet_bits count = bits tt count
+
+-- A call that answers None at the end of the packet did what the reading says, and left no bits there.
+abbrev pub ReadsOrEnds : {X A : Type 0} → (X → A) → Option X → BitReader → Result (A × List Bool) (Unit {0}) → Type 0
+ReadsOrEnds view (Some x) new reading = reading ≡ Ok (view x, new.left)
+ReadsOrEnds view None new reading = (reading ≡ Err tt) × (new.left ≡ [])
 
 -- A call of the code did what the reading says, in the reader's bits and in its result or cause.
 -- The view says how a result of the code is seen. (A call that takes memory has a word of its own,

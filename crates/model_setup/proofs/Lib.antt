@@ -8,3 +8,6 @@ pub mod Runs
 pub mod BookFails
 pub mod BookExamples
 pub mod Roots
+pub mod FloorExamples
+pub mod ResidueExamples
+pub mod ResidueFaults

@@ -6,3 +6,10 @@ pub mod Codewords
 pub mod CodewordLaws
 pub mod Vectors
 pub mod BookReading
+pub mod FloorSetup
+pub mod FloorReading
+pub mod FloorPacket
+pub mod FloorCurve
+pub mod ResidueSetup
+pub mod ResidueReading
+pub mod ResidueDecoding

@@ -6,11 +6,15 @@ ghost use Rattle.model_setup.specs.Leftmost.{IdentNamesLeftmost, CommentNamesLef
 
 mod book;
 mod codeword_laws;
+mod floor;
 mod head;
+mod residue;
 
 pub use book::{BookFault, Budget, LookupKind, Word};
 pub use codeword_laws::{codewords_are_apart, codewords_are_intervals, root_is_greatest};
+pub use floor::{Final, FloorFault};
 pub use head::{CommentCause, IdentCause, IdentFields, StartCause};
+pub use residue::{ResidueFault, ResidueKind};
 
 /// A law: what makes an identification packet, or refuses it, goes by its fields at their places.
 /// All are right, or the cause is that of the leftmost that is missing or wrong

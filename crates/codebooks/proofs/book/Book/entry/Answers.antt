@@ -2,7 +2,7 @@ use Rattle.std.proofs.Common.{length}
 use Rattle.std.proofs.Common.{IsPermutation}
 use Rattle.model_setup.specs.Codewords.{book_words, entry_at}
 use Rattle.codebooks.specs.Books.{words_or_none}
-use Rattle.codebooks.proofs.Bounds.{read_below}
+use Rattle.codebooks.proofs.Bounds.{read_below, all_below}
 use Rattle.codebooks.proofs.Permuted.{sorted_apart, entry_of_right}
 use Rattle.codebooks.proofs.book.Book.entry.Goals as goal
 
@@ -33,3 +33,11 @@ returns-clause-below c =
     let book = words_or_none (book_words c.self.inside.lengths.items) in
     let p : IsPermutation book c.deref.result.now = rw c.deref.ensures.value t.same in
     rw (← c.self.view_is) (read_below book c.args.bits.now.left c.entry_by.new.bits.left (length c.self.inside.lengths.items) c.entry_by.result t.below (c.entry_by.ensures.found book p t.apart))
+
+pub returns-clause-small : goal.returns-clause-small
+returns-clause-small c =
+    let t = c.self.invariant.tree in
+    let book = words_or_none (book_words c.self.inside.lengths.items) in
+    let p : IsPermutation book c.deref.result.now = rw c.deref.ensures.value t.same in
+    let below = read_below book c.args.bits.now.left c.entry_by.new.bits.left (length c.self.inside.lengths.items) c.entry_by.result t.below (c.entry_by.ensures.found book p t.apart) in
+    all_below c.entry_by.result (length c.self.inside.lengths.items) c.self.invariant.few below
