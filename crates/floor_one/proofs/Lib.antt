@@ -1,0 +1,15 @@
+pub mod Nearest
+pub mod NearSoFar
+pub mod Counts
+pub mod Lines
+pub mod Ordered
+pub mod Straight
+pub mod Walked
+pub mod Meets
+pub mod Between
+pub mod FinalLists
+pub mod Flags
+pub mod Heights
+pub mod DigitReads
+pub mod Partitions
+pub mod Widths

@@ -1,0 +1,4 @@
+pub mod Points
+pub mod Floors
+pub mod Curves
+pub mod CurveLaws

@@ -1,0 +1,80 @@
+ghost use Rattle.std.specs.Prelude.{◌≡◌, ◌≤◌, ◌<◌, length, IfOk, IfSome, is_some, nat_lt};
+ghost use Rattle.std.specs.List.{All};
+ghost use Rattle.model_bits.specs.Reading.{ReadsAs, times};
+ghost use Rattle.model_setup.specs.FloorSetup.{IsFloorClass, NamesBooks};
+ghost use Rattle.model_setup.specs.FloorReading.{master_at, class_at, subclass_book_at};
+
+use crate::fields::{read_book, read_field, read_subclass_book};
+use arrayvec::ArrayVec;
+use bit_reader::Bits;
+use model_setup::FloorFault;
+use std::marker::Model;
+
+/// A class of a floor's partitions (Vorbis I, section 7.2.2).
+#[derive(Debug, Default, Drop)]
+pub struct Class {
+    pub dimensions: u8,
+    pub subclass_bits: u8,
+    pub master: Option<u8>,
+    pub books: ArrayVec<Option<u8>, 8>,
+}
+
+impl Model for Class {
+    ghost use Rattle.model_setup.specs.FloorSetup.{FloorClass};
+
+    ghost Value = { FloorClass };
+
+    ghost view = { λ a. record { dimensions = a.dimensions; subclass_bits = a.subclass_bits; master = a.master; books = a.books.items } };
+}
+
+/// Reads the book of the class words, where there are subclasses.
+#[tactic(auto, unfolding(model_setup::specs::FloorReading::master_at))]
+fn read_master(bits: &mut Bits, books: u32, subclass_bits: u32) -> Result<Option<u8>, FloorFault>
+    ensures read { ReadsAs (λ n. n) result bits.new (master_at books subclass_bits bits.old.left) }
+    ensures below { IfOk result (λ named. IfSome named (λ n. n < books)) }
+    ensures named { IfOk result (λ named. is_some named ≡ nat_lt 0 subclass_bits) }
+{
+    if subclass_bits == 0 {
+        return Ok(None);
+    }
+    let book = read_book(bits, books)?;
+    Ok(Some(book))
+}
+
+/// Reads the books of so many subclasses.
+fn read_subclass_books(
+    bits: &mut Bits,
+    books: u32,
+    count: u32,
+) -> Result<ArrayVec<Option<u8>, 8>, FloorFault>
+    requires { count ≤ 8 }
+    ensures read { ReadsAs (λ v. v.items) result bits.new (times count (subclass_book_at books) bits.old.left) }
+    ensures count { IfOk result (λ v. length v.items ≡ count) }
+    ensures below { IfOk result (λ v. All (λ named. IfSome named (λ n. n < books)) v.items) }
+{
+    let mut found = ArrayVec::new();
+    for _ in 0..count {
+        let book = read_subclass_book(bits, books)?;
+        found.push(book);
+    }
+    Ok(found)
+}
+
+/// Reads a class, in a setup of so many books.
+#[tactic(auto, unfolding(model_setup::specs::FloorReading::class_at))]
+pub fn read_class(bits: &mut Bits, books: u32) -> Result<Class, FloorFault>
+    ensures read { ReadsAs (λ a. a) result bits.new (class_at books bits.old.left) }
+    ensures class { IfOk result IsFloorClass }
+    ensures books { IfOk result (NamesBooks books) }
+{
+    let dimensions = read_field(bits, 3)? + 1;
+    let subclass_bits = read_field(bits, 2)?;
+    let master = read_master(bits, books, subclass_bits)?;
+    let subclass_books = read_subclass_books(bits, books, 1 << subclass_bits)?;
+    Ok(Class {
+        dimensions: dimensions as u8,
+        subclass_bits: subclass_bits as u8,
+        master,
+        books: subclass_books,
+    })
+}

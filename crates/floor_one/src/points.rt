@@ -1,0 +1,192 @@
+ghost use Rattle.std.specs.Prelude.{◌≡◌, ◌≤◌, ◌<◌, ◌^◌, ◌+◌, length, IfOk};
+ghost use Rattle.model_bits.specs.Reading.{ReadsAs, times};
+ghost use Rattle.model_setup.specs.FloorSetup.{is_distinct, ArePoints};
+ghost use Rattle.model_setup.specs.FloorReading.{floor_field, x_values_at};
+ghost use Rattle.model_setup.specs.FloorCurve.{low_neighbour, high_neighbour};
+ghost use Rattle.floor_one.specs.Points.{AreEnds, AreInOrder, neighbours_of, places_of, with_ends};
+
+use crate::fields::read_field;
+use arrayvec::ArrayVec;
+use bit_reader::Bits;
+use model_setup::FloorFault;
+use std::marker::Model;
+
+/// The numbers of the points nearest to a point, below and above it, among those before it
+/// (Vorbis I, sections 9.2.4 and 9.2.5).
+#[derive(Clone, Copy, Debug, Default, PartialEq, Eq)]
+pub struct Neighbours {
+    pub low: u8,
+    pub high: u8,
+}
+
+/// The line at which the point of a number stands.
+#[derive(Clone, Copy, Debug, Default, PartialEq, Eq)]
+pub struct Place {
+    pub x: u16,
+    pub number: u8,
+}
+
+/// The lines at which a floor's points stand, with what a packet needs of their order.
+#[derive(Debug, Drop)]
+pub struct Points {
+    x_values: ArrayVec<u16, 65>,
+    neighbours: ArrayVec<Neighbours, 65>,
+    order: ArrayVec<Place, 65>,
+}
+
+impl Model for Points {
+    ghost use Rattle.std.specs.Prelude.{List, ℕ};
+    ghost use Rattle.floor_one.specs.Points.{IsGeometry};
+
+    ghost Value = { List ℕ };
+
+    ghost view = { λ a. a.x_values.items };
+
+    ghost invariant = { λ a. IsGeometry a.x_values.items a.neighbours.items a.order.items };
+}
+
+/// Whether no number stands twice.
+fn is_distinct(x_values: &[u16]) -> bool
+    ensures { result ≡ is_distinct x_values.now }
+{
+    for i in 0..x_values.len() {
+        if x_values[i + 1..].contains(&x_values[i]) {
+            return false;
+        }
+    }
+    true
+}
+
+/// The neighbours of a point.
+fn find_neighbours(x_values: &[u16], i: usize) -> Neighbours
+    requires points { ArePoints x_values.now }
+    requires behind { 2 ≤ i }
+    requires within { i < length x_values.now }
+    ensures low { result.low ≡ low_neighbour x_values.now i }
+    ensures high { result.high ≡ high_neighbour x_values.now i }
+{
+    let x = x_values[i];
+    let mut low = 0;
+    let mut high = 1;
+    for n in 2..i {
+        let other = x_values[n];
+        if other < x && x_values[low] < other {
+            low = n;
+        }
+        if x < other && other < x_values[high] {
+            high = n;
+        }
+    }
+    Neighbours {
+        low: low as u8,
+        high: high as u8,
+    }
+}
+
+/// The neighbours of each point behind the first two.
+fn all_neighbours(x_values: &[u16]) -> ArrayVec<Neighbours, 65>
+    requires { ArePoints x_values.now }
+    ensures { result.items ≡ neighbours_of x_values.now }
+{
+    let mut all = ArrayVec::new();
+    for i in 2..x_values.len() {
+        all.push(find_neighbours(x_values, i));
+    }
+    all
+}
+
+/// The places of all points.
+fn places(x_values: &[u16]) -> ArrayVec<Place, 65>
+    requires { length x_values.now ≤ 65 }
+    ensures { result.items ≡ places_of x_values.now }
+{
+    let mut all = ArrayVec::new();
+    for i in 0..x_values.len() {
+        all.push(Place {
+            x: x_values[i],
+            number: i as u8,
+        });
+    }
+    all
+}
+
+/// The places of all points, in rising order of their lines.
+fn in_order(x_values: &[u16]) -> ArrayVec<Place, 65>
+    requires { ArePoints x_values.now }
+    ensures { AreInOrder x_values.now result.items }
+{
+    let mut places = places(x_values);
+    places.as_mut_slice().sort_unstable_by_key(|place| place.x);
+    places
+}
+
+/// Reads the lines of so many points behind the first two, which stand at line 0 and at the end of a range of so many bits.
+fn read_x_values(
+    bits: &mut Bits,
+    range_bits: u32,
+    count: u32,
+) -> Result<ArrayVec<u16, 65>, FloorFault>
+    requires range_bits { range_bits < 16 }
+    requires count { count ≤ 63 }
+    ensures read { ReadsAs (λ v. v.items) result bits.new (with_ends range_bits (times count (floor_field range_bits) bits.old.left)) }
+    ensures ends { IfOk result (λ v. AreEnds v.items) }
+    ensures count { IfOk result (λ v. length v.items ≡ count + 2) }
+{
+    let mut x_values = ArrayVec::new();
+    x_values.push(0);
+    x_values.push(1 << range_bits);
+    for _ in 0..count {
+        let x = read_field(bits, range_bits)?;
+        x_values.push(x as u16);
+    }
+    Ok(x_values)
+}
+
+/// Reads the points of a floor, of which so many stand behind the first two.
+#[tactic(auto, unfolding(model_setup::specs::FloorReading::x_values_at))]
+pub fn read_points(bits: &mut Bits, range_bits: u32, count: u32) -> Result<Points, FloorFault>
+    requires range_bits { range_bits < 16 }
+    requires count { count < 2 ^ 16 }
+    ensures read { ReadsAs (λ p. p) result bits.new (x_values_at range_bits count bits.old.left) }
+    ensures points { IfOk result ArePoints }
+    ensures count { IfOk result (λ p. length p ≡ count + 2) }
+{
+    if count + 2 > 65 {
+        return Err(FloorFault::List);
+    }
+    let x_values = read_x_values(bits, range_bits, count)?;
+    if !is_distinct(&x_values) {
+        return Err(FloorFault::List);
+    }
+    let neighbours = all_neighbours(&x_values);
+    let order = in_order(&x_values);
+    Ok(Points {
+        x_values,
+        neighbours,
+        order,
+    })
+}
+
+impl Points {
+    /// The line of each point.
+    pub fn x_values(&self) -> &[u16]
+        ensures value { result.now ≡ self.now }
+        ensures points { ArePoints self.now }
+    {
+        self.x_values.as_slice()
+    }
+
+    /// The neighbours of each point behind the first two.
+    pub fn neighbours(&self) -> &[Neighbours]
+        ensures value { result.now ≡ neighbours_of self.now }
+    {
+        self.neighbours.as_slice()
+    }
+
+    /// The places of all points, in rising order of their lines.
+    pub fn order(&self) -> &[Place]
+        ensures order { AreInOrder self.now result.now }
+    {
+        self.order.as_slice()
+    }
+}
