@@ -1,0 +1,13 @@
+pub mod Folds
+pub mod Steps
+pub mod Layouts
+pub mod Digits
+pub mod Parts
+pub mod Words
+pub mod Rooms
+pub mod Begins
+pub mod Whole
+pub mod Together
+pub mod Additions
+pub mod Crossings
+pub mod ReadingPlaces

@@ -1,0 +1,16 @@
+//! Residues: the lines of a packet's spectrum before its floors shape them (Vorbis I, section 8).
+#![tactic(auto)]
+
+mod adding;
+mod decoding;
+mod fields;
+mod lines;
+mod residue;
+
+pub use lines::{Line, zero_lines};
+pub use model_setup::{ResidueFault, ResidueKind};
+pub use residue::Residue;
+pub use sequence::NoMemory;
+
+#[cfg(test)]
+mod tests;
