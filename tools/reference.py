@@ -1,0 +1,406 @@
+#!/usr/bin/env python3
+"""Floors and residues in the plain way of the Vorbis I specification, for the tables of the tests.
+
+    tools/reference.py floors      prints the table of crates/floor_one/src/tests.rt
+    tools/reference.py residues    prints the table of crates/residues/src/tests.rt
+
+It follows the specification's own procedures (sorted lists of points and line rendering in section 7,
+nested loops in section 8) and shares nothing with the crates. Setups and packets are drawn at random, by
+fixed seeds; values are whole numbers in units of 2^-16, rounded down and limited to 2^32.
+"""
+import random
+import sys
+from fractions import Fraction
+
+
+class End(Exception):
+    pass
+
+
+class Bits:
+    """The bits of a packet, of each byte the lowest first (section 2)."""
+
+    def __init__(self, data):
+        self.bits = [byte >> k & 1 for byte in data for k in range(8)]
+        self.at = 0
+
+    def take(self, count):
+        if self.at + count > len(self.bits):
+            self.at = len(self.bits)
+            raise End
+        number = sum(bit << k for k, bit in enumerate(self.bits[self.at:self.at + count]))
+        self.at += count
+        return number
+
+
+class Writer:
+    def __init__(self):
+        self.bits = []
+
+    def put(self, number, count):
+        self.bits += [number >> k & 1 for k in range(count)]
+
+    def bytes(self):
+        bits = self.bits + [0] * (-len(self.bits) % 8)
+        return [sum(bits[i + k] << k for k in range(8)) for i in range(0, len(bits), 8)]
+
+
+def unpack(packed):
+    """A packed number (section 9.2.2), exactly."""
+    mantissa = packed & 0x1FFFFF
+    if packed >> 31:
+        mantissa = -mantissa
+    return Fraction(mantissa) * Fraction(2) ** ((packed >> 21 & 0x3FF) - 788)
+
+
+def limit(value):
+    return max(-(1 << 32), min(1 << 32, value))
+
+
+def fixed(value):
+    return limit((value * 65536).__floor__())
+
+
+class Book:
+    """A codebook of these lengths (section 3), with or without a lookup."""
+
+    def __init__(self, dimensions, lengths, kind=0, minimum=0, delta=0, width=1, sequence=0, multiplicands=()):
+        self.dimensions, self.lengths, self.kind = dimensions, lengths, kind
+        self.minimum, self.delta, self.width = minimum, delta, width
+        self.sequence, self.multiplicands = sequence, list(multiplicands)
+        # the lowest codeword that is free, entry by entry, codewords as texts of digits
+        self.words, taken = {}, []
+        for entry, length in enumerate(lengths):
+            if length == 0:
+                continue
+            for number in range(1 << length):
+                word = format(number, f'0{length}b')
+                if not any(word.startswith(other) or other.startswith(word) for other in taken):
+                    break
+            taken.append(word)
+            self.words[word] = entry
+
+    def write(self):
+        out = Writer()
+        out.put(0x564342, 24)
+        out.put(self.dimensions, 16)
+        out.put(len(self.lengths), 24)
+        out.put(0, 1)
+        sparse = 0 in self.lengths
+        out.put(int(sparse), 1)
+        for length in self.lengths:
+            if sparse:
+                out.put(int(length > 0), 1)
+            if length:
+                out.put(length - 1, 5)
+        out.put(self.kind, 4)
+        if self.kind:
+            out.put(self.minimum, 32)
+            out.put(self.delta, 32)
+            out.put(self.width - 1, 4)
+            out.put(self.sequence, 1)
+            for multiplicand in self.multiplicands:
+                out.put(multiplicand, self.width)
+        return out.bytes()
+
+    def entry(self, bits):
+        word = ''
+        while word not in self.words:
+            word += str(bits.take(1))
+        return self.words[word]
+
+    def vector(self, bits):
+        entry = self.entry(bits)
+        last, values, divisor = 0, [], 1
+        for i in range(self.dimensions):
+            if self.kind == 1:
+                offset = entry // divisor % len(self.multiplicands)
+                divisor *= len(self.multiplicands)
+            else:
+                offset = entry * self.dimensions + i
+            value = limit(fixed(self.multiplicands[offset] * unpack(self.delta)) + fixed(unpack(self.minimum)) + last)
+            if self.sequence:
+                last = value
+            values.append(value)
+        return values
+
+
+def ilog(number):
+    return number.bit_length()
+
+
+def render_point(x0, y0, x1, y1, x):
+    dy, adx = y1 - y0, x1 - x0
+    off = abs(dy) * (x - x0) // adx
+    return y0 - off if dy < 0 else y0 + off
+
+
+def render_line(x0, y0, x1, y1, lines):
+    dy, adx = y1 - y0, x1 - x0
+    base = abs(dy) // adx * (1 if dy >= 0 else -1)
+    sy = base - 1 if dy < 0 else base + 1
+    ady, y, err = abs(dy) - abs(base) * adx, y0, 0
+    lines[x0] = y
+    for x in range(x0 + 1, x1):
+        err += ady
+        if err >= adx:
+            err -= adx
+            y += sy
+        else:
+            y += base
+        lines[x] = y
+
+
+class Floor:
+    """A floor of type 1 (section 7)."""
+
+    def __init__(self, partitions, classes, multiplier, range_bits, xs):
+        self.partitions, self.classes, self.multiplier, self.range_bits = partitions, classes, multiplier, range_bits
+        self.xs = [0, 1 << range_bits] + xs
+
+    def write(self):
+        out = Writer()
+        out.put(len(self.partitions), 5)
+        for number in self.partitions:
+            out.put(number, 4)
+        for dimensions, subclass_bits, master, books in self.classes:
+            out.put(dimensions - 1, 3)
+            out.put(subclass_bits, 2)
+            if subclass_bits:
+                out.put(master, 8)
+            for book in books:
+                out.put(0 if book is None else book + 1, 8)
+        out.put(self.multiplier - 1, 2)
+        out.put(self.range_bits, 4)
+        for x in self.xs[2:]:
+            out.put(x, self.range_bits)
+        return out.bytes()
+
+    def values(self, bits, books):
+        try:
+            if not bits.take(1):
+                return None
+            width = ilog([256, 128, 86, 64][self.multiplier - 1] - 1)
+            ys = [bits.take(width), bits.take(width)]
+            for number in self.partitions:
+                dimensions, subclass_bits, master, named = self.classes[number]
+                cval = books[master].entry(bits) if subclass_bits else 0
+                for _ in range(dimensions):
+                    book = named[cval & (1 << subclass_bits) - 1]
+                    cval >>= subclass_bits
+                    ys.append(0 if book is None else books[book].entry(bits))
+            return ys
+        except End:
+            return None
+
+    def finals(self, ys):
+        limit_y = [256, 128, 86, 64][self.multiplier - 1]
+        final, step2 = ys[:2], [True, True]
+        for i in range(2, len(self.xs)):
+            low = max((n for n in range(i) if self.xs[n] < self.xs[i]), key=lambda n: self.xs[n])
+            high = min((n for n in range(i) if self.xs[n] > self.xs[i]), key=lambda n: self.xs[n])
+            predicted = render_point(self.xs[low], final[low], self.xs[high], final[high], self.xs[i])
+            val, highroom, lowroom = ys[i], limit_y - predicted, predicted
+            room = 2 * min(highroom, lowroom)
+            step2.append(val != 0)
+            if val == 0:
+                final.append(predicted)
+                continue
+            step2[low] = step2[high] = True
+            if val >= room:
+                final.append(val - lowroom + predicted if highroom > lowroom else predicted - val + highroom - 1)
+            elif val % 2:
+                final.append(predicted - (val + 1) // 2)
+            else:
+                final.append(predicted + val // 2)
+        return list(zip(final, step2))
+
+    def curve(self, finals, count):
+        order = sorted(range(len(self.xs)), key=lambda n: self.xs[n])
+        lines = [0] * (max(self.xs[1], count) + 1)
+        hx, hy, lx, ly = 0, 0, 0, finals[0][0] * self.multiplier
+        for n in order[1:]:
+            if finals[n][1]:
+                hy, hx = finals[n][0] * self.multiplier, self.xs[n]
+                render_line(lx, ly, hx, hy, lines)
+                lx, ly = hx, hy
+        for x in range(hx, count):
+            lines[x] = hy
+        return [max(0, min(255, y)) for y in lines[:count]]
+
+
+class Residue:
+    """A residue of type 0, 1 or 2 (section 8)."""
+
+    def __init__(self, kind, begin, end, size, class_book, cascades):
+        self.kind, self.begin, self.end, self.size = kind, begin, end, size
+        self.class_book, self.cascades = class_book, cascades
+
+    def write(self):
+        out = Writer()
+        out.put(self.begin, 24)
+        out.put(self.end, 24)
+        out.put(self.size - 1, 24)
+        out.put(len(self.cascades) - 1, 6)
+        out.put(self.class_book, 8)
+        for cascade in self.cascades:
+            bits = sum(1 << k for k, book in enumerate(cascade) if book is not None)
+            out.put(bits & 7, 3)
+            out.put(int(bits > 7), 1)
+            if bits > 7:
+                out.put(bits >> 3, 5)
+        for cascade in self.cascades:
+            for book in cascade:
+                if book is not None:
+                    out.put(book, 8)
+        return out.bytes()
+
+    def decode(self, bits, books, wanted, count):
+        if self.kind == 2:
+            together = [0] * (count * len(wanted))
+            if any(wanted):
+                self.decode_vectors(bits, books, [True], [together])
+            return [together[j::len(wanted)] for j in range(len(wanted))]
+        vectors = [[0] * count for _ in wanted]
+        self.decode_vectors(bits, books, wanted, vectors)
+        return vectors
+
+    def decode_vectors(self, bits, books, wanted, vectors):
+        length = len(vectors[0])
+        begin, end = min(self.begin, length), min(self.end, length)
+        per_word = books[self.class_book].dimensions
+        partitions = max(0, end - begin) // self.size
+        classes = [[0] * (partitions + per_word) for _ in vectors]
+        try:
+            for pass_number in range(8):
+                partition = 0
+                while partition < partitions:
+                    if pass_number == 0:
+                        for j in range(len(vectors)):
+                            if wanted[j]:
+                                temp = books[self.class_book].entry(bits)
+                                for i in reversed(range(per_word)):
+                                    classes[j][i + partition] = temp % len(self.cascades)
+                                    temp //= len(self.cascades)
+                    for _ in range(per_word):
+                        if partition == partitions:
+                            break
+                        for j in range(len(vectors)):
+                            if wanted[j]:
+                                book = self.cascades[classes[j][partition]][pass_number]
+                                if book is not None:
+                                    self.decode_partition(bits, books[book], vectors[j], begin + partition * self.size)
+                        partition += 1
+        except End:
+            pass
+
+    def decode_partition(self, bits, book, vector, offset):
+        if self.kind == 0:
+            step = self.size // book.dimensions
+            for i in range(step):
+                for j, value in enumerate(book.vector(bits)):
+                    vector[offset + i + j * step] = limit(vector[offset + i + j * step] + value)
+        else:
+            i = 0
+            while i < self.size:
+                for value in book.vector(bits):
+                    if i < self.size:
+                        vector[offset + i] = limit(vector[offset + i] + value)
+                    i += 1
+
+
+def text(items):
+    return '&[' + ', '.join(str(item) for item in items) + ']'
+
+
+FLOOR_BOOKS = [
+    Book(1, [8] * 256),
+    Book(1, [1, 2, 3, 3]),
+    Book(2, [3] * 8),
+]
+
+
+def floor_cases():
+    """Floors by their multiplier, numbers of values of their classes, subclass bits and range, with a packet each."""
+    rng = random.Random(7)
+    shapes = [
+        (1, [3, 2], [0, 1], 6, [0, 1, 0]),
+        (2, [4, 1], [2, 0], 7, [1, 0, 1, 0]),
+        (3, [2, 3], [1, 3], 5, [0, 1, 1]),
+        (4, [1, 8], [0, 0], 6, [1, 0]),
+        (4, [8, 7], [0, 0], 10, [0] * 7 + [1]),
+        (1, [1], [0], 4, []),
+        (2, [3], [1], 6, [0, 0, 0]),
+    ]
+    for multiplier, dimensions, subclass_bits, range_bits, partitions in shapes:
+        classes = []
+        for values, width in zip(dimensions, subclass_bits):
+            books = [rng.choice([None, 0, 1, 1, 2]) for _ in range(1 << width)]
+            if width == 0:
+                books = [rng.choice([0, 1])]
+            classes.append((values, width, 2, books))
+        used = max(partitions) + 1 if partitions else 0
+        count = sum(dimensions[number] for number in partitions)
+        xs = rng.sample(range(1, 1 << range_bits), count)
+        floor = Floor(partitions, classes[:used], multiplier, range_bits, xs)
+        packet = [rng.randrange(256) | 1] + [rng.randrange(256) for _ in range(8 + count * 9 // 8)]
+        yield floor, packet
+        yield floor, packet[:5]
+
+
+def print_books(books):
+    for number, book in enumerate(books):
+        data = book.write()
+        print(f'const BOOK_{number}: [u8; {len(data)}] = {text(data)[1:]};')
+
+
+def print_floors():
+    print_books(FLOOR_BOOKS)
+    for floor, packet in floor_cases():
+        bits = Bits(packet)
+        ys = floor.values(bits, FLOOR_BOOKS)
+        curve = [] if ys is None else floor.curve(floor.finals(ys), min(floor.xs[1] + 8, 72))
+        left = 0 if ys is None else len(bits.bits) - bits.at
+        print(f'({text(floor.write())}, {text(packet)}, {text(curve)}, {left}),')
+
+
+RESIDUE_BOOKS = [
+    Book(2, [4] * 16),
+    Book(2, [1, 2, 3, 3], 2, 0xE2400003, 0x62400001, 3, 0, [0, 1, 5, 2, 7, 3, 4, 6]),
+    Book(3, [3] * 8, 1, 0xE2600001, 0x62600001, 2, 1, [0, 3]),
+    Book(1, [2, 2, 1], 1, 0x62400000, 0x63E00001, 4, 0, [0, 9, 15]),
+]
+
+
+def residue_cases():
+    """Residues by type, range, partition size, classes and wanted vectors, with a packet each."""
+    rng = random.Random(11)
+    for number in range(12):
+        kind = number % 3
+        classes = rng.randrange(1, 5)
+        cascades = [[rng.choice([None, None, 1, 2, 3]) for _ in range(8)] for _ in range(classes)]
+        wanted = [rng.random() < 0.7 for _ in range(rng.randrange(1, 4))]
+        size = rng.randrange(1, 7)
+        count = rng.randrange(8, 14)
+        begin = rng.randrange(0, 6)
+        end = begin + rng.randrange(4, 40)
+        residue = Residue(kind, begin, end, size, 0, cascades)
+        packet = [rng.randrange(256) for _ in range(rng.choice([5, 10, 20]))]
+        yield residue, packet, wanted, count
+
+
+def print_residues():
+    print_books(RESIDUE_BOOKS)
+    for residue, packet, wanted, count in residue_cases():
+        bits = Bits(packet)
+        vectors = residue.decode(bits, RESIDUE_BOOKS, wanted, count)
+        values = text(value for vector in vectors for value in vector)
+        flags = text(str(w).lower() for w in wanted)
+        print(f'({residue.kind}, {text(residue.write())}, {text(packet)}, {flags}, {values}, {len(bits.bits) - bits.at}),')
+
+
+if __name__ == '__main__':
+    tables = {'floors': print_floors, 'residues': print_residues}
+    if len(sys.argv) != 2 or sys.argv[1] not in tables:
+        sys.exit(__doc__)
+    tables[sys.argv[1]]()
