@@ -373,20 +373,33 @@ RESIDUE_BOOKS = [
 
 
 def residue_cases():
-    """Residues by type, range, partition size, classes and wanted vectors, with a packet each."""
+    """Residues by type, range, partition size, cascades and wanted vectors, with a packet each."""
     rng = random.Random(11)
-    for number in range(12):
+    one, two = [2, None, None, None, None, None, None, None], [None, 1, None, 3, None, None, None, None]
+    shapes = [
+        # five partitions in groups of two: the last group is short
+        (1, 1, 11, 2, [one, two, [3] * 8], [True, False, True], 12, 14),
+        # it begins past the length
+        (0, 14, 30, 3, [one], [True], 12, 4),
+        # all eight passes
+        (2, 0, 12, 3, [[1, 2, 3, 1, 2, 3, 1, 2]], [False, True], 6, 30),
+        (0, 0, 12, 6, [[3] * 8, [2] * 8], [True, True], 12, 40),
+        # the packet ends within a partition of many readings
+        (1, 0, 12, 12, [[3] * 8], [True], 12, 2),
+        (2, 0, 24, 12, [[2] * 8], [True, True, False], 8, 3),
+    ]
+    for kind, begin, end, size, cascades, wanted, count, length in shapes:
+        residue = Residue(kind, begin, end, size, 0, cascades)
+        yield residue, [rng.randrange(256) for _ in range(length)], wanted, count
+    for number in range(6):
         kind = number % 3
-        classes = rng.randrange(1, 5)
-        cascades = [[rng.choice([None, None, 1, 2, 3]) for _ in range(8)] for _ in range(classes)]
+        cascades = [[rng.choice([None, None, 1, 2, 3]) for _ in range(8)] for _ in range(rng.randrange(1, 5))]
         wanted = [rng.random() < 0.7 for _ in range(rng.randrange(1, 4))]
-        size = rng.randrange(1, 7)
+        size = rng.randrange(1, 5)
         count = rng.randrange(8, 14)
         begin = rng.randrange(0, 6)
-        end = begin + rng.randrange(4, 40)
-        residue = Residue(kind, begin, end, size, 0, cascades)
-        packet = [rng.randrange(256) for _ in range(rng.choice([5, 10, 20]))]
-        yield residue, packet, wanted, count
+        residue = Residue(kind, begin, begin + rng.randrange(8, 40), size, 0, cascades)
+        yield residue, [rng.randrange(256) for _ in range(rng.choice([5, 10, 20]))], wanted, count
 
 
 def print_residues():
