@@ -11,3 +11,4 @@ pub mod Together
 pub mod Additions
 pub mod Crossings
 pub mod ReadingPlaces
+pub mod Silences

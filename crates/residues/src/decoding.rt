@@ -447,7 +447,7 @@ impl Residue {
     {
         let covered = (self.end as usize)
             .min(size)
-            .saturating_sub((self.begin as usize).min(size));
+            .saturating_sub(self.begin as usize);
         let partitions = covered / self.partition_size as usize;
         let places = books[usize::from(self.class_book)].dimensions() as usize;
         Decoder {

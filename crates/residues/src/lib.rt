@@ -4,9 +4,11 @@
 mod adding;
 mod decoding;
 mod fields;
+mod laws;
 mod lines;
 mod residue;
 
+pub use laws::{nothing_outside_the_range, unwanted_stays_silent};
 pub use lines::{Line, zero_lines};
 pub use model_setup::{ResidueFault, ResidueKind};
 pub use residue::Residue;
