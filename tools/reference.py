@@ -68,17 +68,49 @@ class Book:
         self.dimensions, self.lengths, self.kind = dimensions, lengths, kind
         self.minimum, self.delta, self.width = minimum, delta, width
         self.sequence, self.multiplicands = sequence, list(multiplicands)
-        # the lowest codeword that is free, entry by entry, codewords as texts of digits
-        self.words, taken = {}, []
+        # entry by entry the leftmost free leaf of a tree, codewords as texts of digits
+        self.words, tree = {}, {}
         for entry, length in enumerate(lengths):
-            if length == 0:
-                continue
-            for number in range(1 << length):
-                word = format(number, f'0{length}b')
-                if not any(word.startswith(other) or other.startswith(word) for other in taken):
-                    break
-            taken.append(word)
-            self.words[word] = entry
+            if length:
+                self.words[self.leaf(tree, length)] = entry
+
+    @classmethod
+    def leaf(cls, tree, length):
+        """Takes the leftmost free leaf at a depth, or nothing where there is none."""
+        for digit in '01':
+            if length == 1 and digit not in tree:
+                tree[digit] = None
+                return digit
+            if length > 1 and tree.get(digit, {}) is not None:
+                rest = cls.leaf(tree.setdefault(digit, {}), length - 1)
+                if rest:
+                    return digit + rest
+        return ''
+
+    @classmethod
+    def read(cls, bits):
+        assert bits.take(24) == 0x564342
+        dimensions, lengths = bits.take(16), [0] * bits.take(24)
+        if bits.take(1):
+            entry, length = 0, bits.take(5) + 1
+            while entry < len(lengths):
+                run = bits.take(ilog(len(lengths) - entry))
+                lengths[entry:entry + run] = [length] * run
+                entry, length = entry + run, length + 1
+        else:
+            sparse = bits.take(1)
+            for entry in range(len(lengths)):
+                if not sparse or bits.take(1):
+                    lengths[entry] = bits.take(5) + 1
+        kind = bits.take(4)
+        if not kind:
+            return cls(dimensions, lengths)
+        minimum, delta, width, sequence = bits.take(32), bits.take(32), bits.take(4) + 1, bits.take(1)
+        count = len(lengths) * dimensions
+        if kind == 1:
+            count = max(root for root in range(len(lengths) + 1) if root ** dimensions <= len(lengths))
+        multiplicands = [bits.take(width) for _ in range(count)]
+        return cls(dimensions, lengths, kind, minimum, delta, width, sequence, multiplicands)
 
     def write(self):
         out = Writer()
@@ -176,6 +208,19 @@ class Floor:
             out.put(x, self.range_bits)
         return out.bytes()
 
+    @classmethod
+    def read(cls, bits):
+        partitions = [bits.take(4) for _ in range(bits.take(5))]
+        classes = []
+        for _ in range(max(partitions, default=-1) + 1):
+            dimensions, subclass_bits = bits.take(3) + 1, bits.take(2)
+            master = bits.take(8) if subclass_bits else None
+            numbers = [bits.take(8) for _ in range(1 << subclass_bits)]
+            classes.append((dimensions, subclass_bits, master, [n - 1 if n else None for n in numbers]))
+        multiplier, range_bits = bits.take(2) + 1, bits.take(4)
+        xs = [bits.take(range_bits) for number in partitions for _ in range(classes[number][0])]
+        return cls(partitions, classes, multiplier, range_bits, xs)
+
     def values(self, bits, books):
         try:
             if not bits.take(1):
@@ -254,6 +299,16 @@ class Residue:
                 if book is not None:
                     out.put(book, 8)
         return out.bytes()
+
+    @classmethod
+    def read(cls, kind, bits):
+        begin, end, size, count = bits.take(24), bits.take(24), bits.take(24) + 1, bits.take(6) + 1
+        class_book, passes = bits.take(8), []
+        for _ in range(count):
+            low = bits.take(3)
+            passes.append(low + 8 * (bits.take(5) if bits.take(1) else 0))
+        cascades = [[bits.take(8) if used >> k & 1 else None for k in range(8)] for used in passes]
+        return cls(kind, begin, end, size, class_book, cascades)
 
     def decode(self, bits, books, wanted, count):
         if self.kind == 2:
