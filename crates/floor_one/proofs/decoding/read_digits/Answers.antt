@@ -1,9 +1,7 @@
 use Rattle.std.proofs.Common.{◌≡◌, ◌+◌, ◌*◌, ◌%◌, ◌^◌, ◌<◌, ◌≤◌, length, ap, arith}
-use Rattle.std.specs.List.{range_with_len}
-use Rattle.std.proofs.lemmas.List.FromFn.{length-range_with_len}
 use Rattle.std.proofs.lemmas.List.Elements.{All-push}
 use Rattle.model_setup.specs.FloorSetup.{FloorClass}
-use Rattle.model_bits.proofs.Each.{each_ends}
+use Rattle.model_bits.proofs.Each.{each_number_ends}
 use Rattle.floor_one.proofs.DigitReads.{power_is, next_digits, value_reading, digit_read, digit_ends}
 use Rattle.floor_one.proofs.decoding.read_digits.Goals as goal
 
@@ -32,7 +30,5 @@ loop-preserved c =
 pub returns-clause-read : goal.returns-clause-read
 returns-clause-read c =
     let class = c.args.class.now in
-    let numbers = range_with_len 0 class.dimensions in
-    let len = length-range_with_len 0 class.dimensions in
     let past : class.dimensions ≤ c.loop.counter = rw (← c.class.view_is) c.loop-test.false in
-    each_ends (value_reading c.args.books.now class c.args.word) c.loop.values.items numbers c.loop.counter 0 c.loop.bits.left _ c.loop.invariant.read (omega arith)
+    each_number_ends (value_reading c.args.books.now class c.args.word) c.loop.values.items class.dimensions c.loop.counter c.loop.bits.left _ c.loop.invariant.read past
