@@ -9,3 +9,4 @@ pub mod Scales
 pub mod Bounds
 pub mod Fills
 pub mod SmallVectors
+pub mod Heads

@@ -5,6 +5,7 @@ ghost use Rattle.model_setup.specs.Vectors.{vector_at};
 ghost use Rattle.model_setup.specs.BookReading.{ReadsAs, front_at, length_list_at, lengths_at, book_at, multiplicands_of};
 ghost use Rattle.codebooks.specs.Free.{IsLengthIfUsed};
 ghost use Rattle.codebooks.specs.Books.{IsTree};
+ghost use Rattle.codebooks.specs.Fronts.{front_of};
 
 use crate::fields::read_field;
 use crate::lengths::{read_ordered_lengths, read_unordered_lengths};
@@ -161,7 +162,6 @@ impl Book {
 
     /// Reads an entry and writes its vector, in units of 2^-16. `None` is the end of the packet:
     /// nothing is written then, and the bits are used up.
-    #[tactic(auto, unfolding(model_setup::specs::Vectors::vector_at))]
     pub fn vector(&self, bits: &mut Bits, out: &mut [i64]) -> Option<()>
         requires lookup { IsSome self.now.lookup }
         requires room { length out.old ≡ self.now.dimensions }
@@ -171,9 +171,25 @@ impl Book {
         ensures kept { IfNone result (out.new ≡ out.old) }
         ensures small { OnSome result (All (λ v. unsigned_abs v ≤ 2 ^ 32) out.new) }
     {
+        self.front(bits, out)
+    }
+
+    /// Reads an entry and writes the first values of its vector, as many as there is room for, in
+    /// units of 2^-16. `None` is the end of the packet: nothing is written then, and the bits are
+    /// used up.
+    #[tactic(auto, unfolding(model_setup::specs::Vectors::vector_at))]
+    pub fn front(&self, bits: &mut Bits, out: &mut [i64]) -> Option<()>
+        requires lookup { IsSome self.now.lookup }
+        requires room { length out.old ≤ self.now.dimensions }
+        ensures found { OnSome result (front_of (length out.old) (vector_at self.now bits.old.left) ≡ Some (out.new, bits.new.left)) }
+        ensures ended { IfNone result (vector_at self.now bits.old.left ≡ None) }
+        ensures finished { IfNone result (bits.new.left ≡ []) }
+        ensures kept { IfNone result (out.new ≡ out.old) }
+        ensures small { OnSome result (All (λ v. unsigned_abs v ≤ 2 ^ 32) out.new) }
+    {
         let entry = self.entry(bits)?;
         if let Some(table) = &self.table {
-            table.fill(entry, out);
+            table.fill(entry, usize::from(self.dimensions), out);
         }
         Some(())
     }

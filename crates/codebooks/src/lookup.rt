@@ -1,4 +1,4 @@
-ghost use Rattle.std.specs.Prelude.{◌≡◌, ◌≤◌, ◌<◌, ◌^◌, ◌+◌, ◌*◌, length, IfOk, IsSome, Some, nat_le, unsigned_abs, List};
+ghost use Rattle.std.specs.Prelude.{◌≡◌, ◌≤◌, ◌<◌, ◌^◌, ◌+◌, ◌*◌, length, IfOk, IsSome, Some, nat_le, unsigned_abs, List, take};
 ghost use Rattle.std.specs.List.{All};
 ghost use Rattle.model_bits.specs.Reading.{times};
 ghost use Rattle.model_setup.specs.declared.book.LookupKind.{LookupKind};
@@ -172,7 +172,8 @@ impl Table {
         if self.sequence { value } else { 0 }
     }
 
-    /// The vector of an entry by the digits of its number.
+    /// The first values of an entry's vector by the digits of its number: they are the same for any
+    /// number of dimensions.
     fn fill_by_digits(&self, entry: u32, out: &mut [i64])
         requires kind { self.now.kind ≡ LookupKind.Lattice }
         requires some { 0 < length self.now.multiplicands }
@@ -190,14 +191,15 @@ impl Table {
         }
     }
 
-    /// The vector of an entry by multiplicands of its own.
-    fn fill_by_own(&self, entry: u32, out: &mut [i64])
+    /// The first values of an entry's vector by multiplicands of its own.
+    fn fill_by_own(&self, entry: u32, dimensions: usize, out: &mut [i64])
         requires kind { self.now.kind ≡ LookupKind.Tessellation }
-        requires room { entry * length out.old + length out.old ≤ length self.now.multiplicands }
-        ensures { out.new ≡ vector_of (length out.old) self.now entry }
+        requires room { entry * dimensions + dimensions ≤ length self.now.multiplicands }
+        requires front { length out.old ≤ dimensions }
+        ensures { out.new ≡ take (length out.old) (vector_of dimensions self.now entry) }
     {
         let multiplicands = self.multiplicands.as_slice();
-        let first = entry as usize * out.len();
+        let first = entry as usize * dimensions;
         let mut last = 0;
         for i in 0..out.len() {
             let value = self.value(multiplicands[first + i], last);
@@ -206,15 +208,16 @@ impl Table {
         }
     }
 
-    /// Writes the vector of an entry.
-    pub fn fill(&self, entry: u32, out: &mut [i64])
-        requires { HasRoom self.now (length out.old) entry }
-        ensures vector { out.new ≡ vector_of (length out.old) self.now entry }
+    /// Writes the first values of an entry's vector, as many as there is room for.
+    pub fn fill(&self, entry: u32, dimensions: usize, out: &mut [i64])
+        requires room { HasRoom self.now dimensions entry }
+        requires front { length out.old ≤ dimensions }
+        ensures vector { out.new ≡ take (length out.old) (vector_of dimensions self.now entry) }
         ensures small { All (λ v. unsigned_abs v ≤ 2 ^ 32) out.new }
     {
         match self.kind {
             LookupKind::Lattice => self.fill_by_digits(entry, out),
-            LookupKind::Tessellation => self.fill_by_own(entry, out),
+            LookupKind::Tessellation => self.fill_by_own(entry, dimensions, out),
         }
     }
 }

@@ -477,6 +477,15 @@ fn makes_vectors(rt: HostRuntime) -> Result<(), BookFault> {
             assert!(rt; book.vector(&mut bits, &mut out[..dimensions]).is_some());
             assert_eq!(rt; &out[..dimensions], wanted);
         }
+        // all but the last value of each
+        let front = dimensions - 1;
+        let mut bits = Bits::new(packet);
+        for wanted in values.chunks(dimensions) {
+            assert!(rt; wanted.len() == dimensions);
+            let mut out = [0; 4];
+            assert!(rt; book.front(&mut bits, &mut out[..front]).is_some());
+            assert_eq!(rt; &out[..front], &wanted[..front]);
+        }
     }
     let book = read(rt.alloc(), &LATTICE)?;
     assert!(rt; book.has_lookup());

@@ -4,7 +4,6 @@ pub mod Layouts
 pub mod Digits
 pub mod Parts
 pub mod Words
-pub mod Rooms
 pub mod Begins
 pub mod Whole
 pub mod Together
@@ -12,3 +11,4 @@ pub mod Additions
 pub mod Crossings
 pub mod ReadingPlaces
 pub mod Silences
+pub mod Fronts

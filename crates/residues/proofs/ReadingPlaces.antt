@@ -1,8 +1,9 @@
 -- The places of a reading are those of a run.
-use Rattle.std.proofs.Common.{◌≡◌, ℕ, ◌+◌, ◌-◌, ◌*◌, ◌/◌, ◌<◌, List, [], ◌∷◌, ◌⊎◌, length, map, min, get_or, inl, inr, refl, ap, sym, ◌∙◌, arith}
+use Rattle.std.proofs.Common.{◌≡◌, ℕ, ◌+◌, ◌-◌, ◌*◌, ◌/◌, ◌<◌, ◌≤◌, List, [], ◌∷◌, ◌⊎◌, length, map, min, get_or, inl, inr, refl, ap, sym, ◌∙◌, arith}
 use Rattle.std.specs.List.{range_with_len}
 use Rattle.std.specs.Int.{div_ceil}
-use Rattle.std.proofs.Math.Nat.{mul-le-mul_right, div-mul-le_self}
+use Rattle.std.proofs.Math.Nat.{mul-le-mul_right, div-mul-le_self, div-eq_of_lt}
+use Rattle.std.proofs.lemmas.Bool.{cases_lt}
 use Rattle.std.proofs.lemmas.Grind.{div_ceil_times}
 use Rattle.std.proofs.lemmas.List.FromFn.{length-map-range_with_len, get_or-map-range_with_len}
 use Rattle.model_setup.specs.declared.residue.ResidueKind.{ResidueKind}
@@ -59,6 +60,13 @@ module _ (kind : ResidueKind) (first size dimensions reading : ℕ) (h : reading
       let rows = mul-le-mul_right (size / dimensions) k in
       let all = div-mul-le_self size dimensions in
       omega arith
+
+  -- a partition that is read at all has as many values as the book has
+  pub spread_few : kind ≡ Spread → dimensions ≤ size
+  spread_few e = elim (cases_lt size dimensions) [
+    | inl less ↦ let none : size / dimensions ≡ 0 = div-eq_of_lt less in let below = spread_below e in absurd (omega arith)
+    | inr more ↦ more
+  ]
 
   row_below : (kind ≡ InRow) ⊎ (kind ≡ Interleaved) → reading < div_ceil size dimensions
   row_below e = rw (row_count kind first size dimensions e) at h

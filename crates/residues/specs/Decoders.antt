@@ -1,11 +1,10 @@
 -- What a decoding works on, and the state that it goes through.
-use Rattle.std.specs.Prelude.{◌≡◌, ℕ, ◌*◌, ◌<◌, ◌≤◌, List, length, Bool, ℤ, Option, IfSome}
+use Rattle.std.specs.Prelude.{◌≡◌, ℕ, min, ◌*◌, ◌<◌, ◌≤◌, List, length, Bool, ℤ}
 use Rattle.std.specs.List.{All}
-use Rattle.model_setup.specs.Codebook.{Codebook}
 use Rattle.model_setup.specs.declared.residue.ResidueKind.{ResidueKind}
 use Rattle.model_setup.specs.declared.residue.ResidueKind.TheVariants.{Spread, InRow, Interleaved}
-use Rattle.model_setup.specs.ResidueSetup.{FitsBooks}
-use Rattle.model_setup.specs.ResidueDecoding.{Decoding, Step, after_step, book_of, places_of, partition_count, row_width}
+use Rattle.model_setup.specs.ResidueSetup.{ResidueSetup, FitsBooks}
+use Rattle.model_setup.specs.ResidueDecoding.{Decoding, Step, after_step, places_of, partition_count, row_width}
 use Rattle.residues.specs.Layout.{vectors_in, AreLines}
 use Rattle.residues.specs.declared.decoding.Decoder.{Decoder}
 
@@ -39,16 +38,16 @@ pub record HasRows (d : Decoder) (classes : List ℕ) : Type 0 where
   pub count : length classes ≡ length d.wanted.now * d.width
   pub named : All (λ class. class < length d.residue.now.cascades) classes
 
--- each vector that a pass adds has at most so many values
-abbrev pub AreWithin : List Codebook → List (List (Option ℕ)) → ℕ → Type 0
-AreWithin books cascades room = All (All (λ named. IfSome named (λ number. (book_of books number).dimensions ≤ room))) cascades
+-- how many values a reading has at most, over vectors of so many values
+unfoldable pub most_values : ResidueSetup → ℕ → ℕ
+most_values residue size = min residue.partition_size size
 
 -- the lines, the classes and the room for values fit a decoder
 pub record HasRoom (d : Decoder) (lines : List (List ℤ)) (classes : List ℕ) (room : ℕ) : Type 0 where
   pub decoder : IsDecoder d
   pub layout : HasLines d lines
   pub rows : HasRows d classes
-  pub values : AreWithin d.books.now d.residue.now.cascades room
+  pub values : most_values d.residue.now d.size ≤ room
 
 -- the state of a decoding
 abbrev pub state : List (List ℤ) → List ℕ → List Bool → Bool → Decoding

@@ -100,6 +100,7 @@ pub fn run_of(
     ensures places { run_places result.first result.stride result.count ≡ slice_index_or (reading_places kind first size dimensions) reading [] }
     ensures within { (j : ℕ) → j < result.count → result.first + j * result.stride < first + size }
     ensures enough { result.count ≤ dimensions }
+    ensures few { result.count ≤ size }
     ensures some { 0 < result.count }
     ensures interleaved { kind ≡ Interleaved → result.stride ≡ 1 }
 {

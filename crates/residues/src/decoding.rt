@@ -1,13 +1,15 @@
-ghost use Rattle.std.specs.Prelude.{◌≡◌, ◌≤◌, ◌<◌, ◌^◌, ◌+◌, ◌*◌, [], length, ℤ, List, true, fold, replicate, is_some, IfOk, OnOk, OnErr, unsigned_abs, slice_index_or, slice_set};
+ghost use Rattle.std.specs.Prelude.{◌≡◌, ◌≤◌, ◌<◌, ◌^◌, ◌+◌, ◌*◌, [], length, ℤ, List, true, fold, replicate, is_some, min, ℕ, Some, None, IfOk, IfNone, OnSome, IsSome, OnOk, OnErr, unsigned_abs, slice_index_or, slice_set};
 ghost use Rattle.std.specs.List.{All, flat_map, list_any};
 ghost use Rattle.std.specs.Int.{div_ceil};
 ghost use Rattle.model_setup.specs.ResidueSetup.{FitsBooks, has_values};
 ghost use Rattle.model_setup.specs.ResidueDecoding.{Word, Part, each_wanted, words_of_group, group_partitions, group_steps, pass_steps, steps, after_reading, add_all, vector_in, reading_places, overwritten, classes_in, residue_vectors};
-ghost use Rattle.residues.specs.Layout.{line_size, AreZero, vectors_in};
-ghost use Rattle.residues.specs.Decoders.{IsDecoder, HasLines, HasRows, HasRoom, AreWithin, state, state_of, step_of};
+ghost use Rattle.model_setup.specs.Vectors.{vector_at};
+ghost use Rattle.model_setup.specs.declared.residue.ResidueKind.TheVariants.{Interleaved};
+ghost use Rattle.residues.specs.Layout.{line_size, AreZero, vectors_in, run_places};
+ghost use Rattle.residues.specs.Decoders.{IsDecoder, HasLines, HasRows, HasRoom, most_values, state, state_of, step_of};
 
 use crate::Line;
-use crate::adding::{add_across, add_to_line, reading_count, run_of};
+use crate::adding::{Run, add_across, add_to_line, reading_count, run_of};
 use crate::residue::Residue;
 use bit_reader::Bits;
 use codebooks::Book;
@@ -43,50 +45,34 @@ struct Memory {
 
 impl Decoder<'_> {
     /// The memory for a decoding: no class is read yet.
+    #[tactic(auto, unfolding(crate::specs::Decoders::most_values))]
     fn take_memory(&self, alloc: Global) -> Result<Memory, NoMemory>
         requires { IsDecoder self.now }
         ensures classes { IfOk result (λ m. m.classes.items ≡ replicate (length self.now.wanted.now * self.now.width) 0) }
-        ensures values { IfOk result (λ m. AreWithin self.now.books.now self.now.residue.now.cascades (length m.values.items)) }
+        ensures values { IfOk result (λ m. length m.values.items ≡ most_values self.now.residue.now self.now.size) }
     {
+        let residue = self.residue;
         let count = self.wanted.len().checked_mul(self.width).ok_or(NoMemory)?;
         Ok(Memory {
             classes: vec![in alloc; 0; count]?,
-            values: vec![in alloc; 0; self.residue.room(self.books)]?,
+            values: vec![in alloc; 0; (residue.partition_size as usize).min(self.size)]?,
         })
     }
 
-    /// Adds the values of a reading to the lines.
-    fn add(
-        &self,
-        lines: &mut [Line],
-        vector: usize,
-        first: usize,
-        dimensions: usize,
-        reading: usize,
-        values: &[i64],
-    )
-        requires decoder { IsDecoder self.now }
+    /// Adds values to those of a vector at the places of a run.
+    fn add(&self, lines: &mut [Line], vector: usize, run: Run, values: &[i64])
         requires lines { HasLines self.now lines.old }
         requires vector { vector < length self.now.wanted.now }
-        requires some { 0 < dimensions }
-        requires dimensions { dimensions < 2 ^ 16 }
-        requires within { first + self.now.residue.now.partition_size ≤ self.now.size }
-        requires first { first < 2 ^ 24 }
-        requires reading { reading < length (reading_places self.now.residue.now.kind first self.now.residue.now.partition_size dimensions) }
-        requires enough { length values.now ≡ dimensions }
+        requires some { 0 < run.count }
+        requires within { (j : ℕ) → j < run.count → run.first + j * run.stride < self.now.size }
+        requires interleaved { self.now.residue.now.kind ≡ Interleaved → run.stride ≡ 1 }
+        requires enough { run.count ≤ length values.now }
         requires values { All (λ v. unsigned_abs v ≤ 2 ^ 32) values.now }
         ensures added { let old = vectors_in self.now.residue.now.kind self.now.line_size lines.old in
-            vectors_in self.now.residue.now.kind self.now.line_size lines.new ≡ slice_set old vector (add_all (vector_in old vector) (slice_index_or (reading_places self.now.residue.now.kind first self.now.residue.now.partition_size dimensions) reading []) values.now) }
+            vectors_in self.now.residue.now.kind self.now.line_size lines.new ≡ slice_set old vector (add_all (vector_in old vector) (run_places run.first run.stride run.count) values.now) }
         ensures lines { HasLines self.now lines.new }
     {
         let residue = self.residue;
-        let run = run_of(
-            residue.kind,
-            first,
-            residue.partition_size as usize,
-            dimensions,
-            reading,
-        );
         match residue.kind {
             ResidueKind::Interleaved => add_across(
                 lines,
@@ -105,6 +91,7 @@ impl Decoder<'_> {
 
     /// Reads an entry and adds its values at the places of a reading. `None` is the end of the
     /// packet.
+    #[tactic(auto, unfolding(crate::specs::Decoders::most_values))]
     fn read_entry(
         &self,
         bits: &mut Bits,
@@ -118,7 +105,6 @@ impl Decoder<'_> {
         requires room { HasRoom self.now lines.old memory.old.classes.items (length memory.old.values.items) }
         requires vector { vector < length self.now.wanted.now }
         requires book { has_values book.now ≡ true }
-        requires values { book.now.dimensions ≤ length memory.old.values.items }
         requires within { first + self.now.residue.now.partition_size ≤ self.now.size }
         requires first { first < 2 ^ 24 }
         requires reading { reading < length (reading_places self.now.residue.now.kind first self.now.residue.now.partition_size book.now.dimensions) }
@@ -126,10 +112,17 @@ impl Decoder<'_> {
         ensures room { HasRoom self.now lines.new memory.new.classes.items (length memory.old.values.items) }
         ensures kept { length memory.new.values.items ≡ length memory.old.values.items }
     {
-        let dimensions = book.dimensions() as usize;
-        let values = &mut memory.values[..dimensions];
-        book.vector(bits, values)?;
-        self.add(lines, vector, first, dimensions, reading, values);
+        let residue = self.residue;
+        let run = run_of(
+            residue.kind,
+            first,
+            residue.partition_size as usize,
+            book.dimensions() as usize,
+            reading,
+        );
+        let values = &mut memory.values[..run.count];
+        book.front(bits, values)?;
+        self.add(lines, vector, run, values);
         Some(())
     }
 
@@ -146,7 +139,6 @@ impl Decoder<'_> {
         requires room { HasRoom self.now lines.old memory.old.classes.items (length memory.old.values.items) }
         requires vector { vector < length self.now.wanted.now }
         requires book { has_values book.now ≡ true }
-        requires values { book.now.dimensions ≤ length memory.old.values.items }
         requires within { first + self.now.residue.now.partition_size ≤ self.now.size }
         requires first { first < 2 ^ 24 }
         ensures after { state_of self.now lines.new memory.new.classes.items bits.new.left (is_some result) ≡ fold (after_reading book.now vector) (state_of self.now lines.old memory.old.classes.items bits.old.left true) (reading_places self.now.residue.now.kind first self.now.residue.now.partition_size book.now.dimensions) }
@@ -413,22 +405,6 @@ fn is_any(wanted: &[bool]) -> bool
 }
 
 impl Residue {
-    /// How many values the largest vector of a book has that is named in a pass.
-    fn room(&self, books: &[Book]) -> usize
-        requires { FitsBooks books.now self.now }
-        ensures { AreWithin books.now self.now.cascades result }
-    {
-        let mut room = 0;
-        for cascade in &self.cascades {
-            for number in cascade {
-                if let Some(number) = number {
-                    room = room.max(books[usize::from(*number)].dimensions() as usize);
-                }
-            }
-        }
-        room
-    }
-
     /// What a decoding reads by, over vectors of so many values.
     fn decoder<'a>(
         &'a self,

@@ -1,6 +1,6 @@
 use Rattle.std.proofs.Common.{◌+◌, ◌*◌, ap, ◌∙◌, refl, arith}
 use Rattle.residues.specs.Layout.{run_places}
-use Rattle.residues.proofs.ReadingPlaces.{spread_run, spread_within, row_run, row_within}
+use Rattle.residues.proofs.ReadingPlaces.{spread_run, spread_within, spread_few, row_run, row_within}
 use Rattle.residues.proofs.adding.run_of.Goals as goal
 
 pub overflow_add-result : goal.overflow_add-result
@@ -47,6 +47,12 @@ returns-in-InRow c =
           ∙ row_run a.kind a.first a.size a.dimensions a.reading c.requires.reading c.in-InRow.is;
       within = λ j k. omega arith;
       enough = omega arith;
+      few = omega arith;
       some = omega arith;
       interleaved = λ e. refl;
     }
+
+pub returns-in-Spread-clause-few : goal.returns-in-Spread-clause-few
+returns-in-Spread-clause-few c =
+    let a = c.args in
+    spread_few a.kind a.first a.size a.dimensions a.reading c.requires.reading c.in-Spread.is

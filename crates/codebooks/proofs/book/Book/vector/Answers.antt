@@ -1,14 +1,6 @@
-use Rattle.std.proofs.Common.{◌≡◌, ◌<◌, length, ap, sym, ◌∙◌}
-use Rattle.model_setup.specs.Codebook.{Codebook}
-use Rattle.codebooks.specs.Tables.{IsWholeTable}
-use Rattle.codebooks.proofs.Fills.{has_room}
+use Rattle.std.proofs.Common.{length}
+use Rattle.codebooks.proofs.Heads.{front_whole}
 use Rattle.codebooks.proofs.book.Book.vector.Goals as goal
 
-pub fill-requires : goal.fill-requires
-fill-requires c =
-    let s = c.self.inside in
-    let whole : IsWholeTable s.dimensions (length s.lengths.items) c.in-Some.table = rw c.in-Some.is at c.self.invariant.whole in
-    let same : length c.args.self.now.lengths ≡ length s.lengths.items = sym (ap (λ (b : Codebook). length b.lengths) c.self.view_is) in
-    let below : c.in_ok-entry.entry < length s.lengths.items = rw same at c.in_ok-entry.ensures.below in
-    let d : s.dimensions ≡ length c.args.out.now = ap (λ (b : Codebook). b.dimensions) c.self.view_is ∙ sym c.requires.room in
-    rw (← d) (has_room c.in-Some.table s.dimensions (length s.lengths.items) c.in_ok-entry.entry whole below)
+pub returns-clause-found : goal.returns-clause-found
+returns-clause-found c = rw (← front_whole c.args.self.now c.args.bits.now.left (length c.args.out.now) c.requires.room) c.front.ensures.found

@@ -1,7 +1,7 @@
 use Rattle.std.proofs.Common.{◌≡◌, ◌+◌, ◌*◌, ◌<◌, pos, length, get_or, ap, sym, ◌∙◌, refl, arith, w64, to_z, of_z}
 use Rattle.std.specs.Prelude.{FitsSigned}
 use Rattle.std.proofs.lemmas.Int.{to_z-of_z}
-use Rattle.std.proofs.lemmas.List.FromFn.{fill_by_all}
+use Rattle.std.proofs.lemmas.List.FromFn.{fill_by_all, take-map-range_with_len}
 use Rattle.model_setup.specs.Codebook.{Lookup}
 use Rattle.model_setup.specs.Vectors.{multiplicand_at, value_at, carried_on, vector_of}
 use Rattle.codebooks.proofs.Fills.{carried_to, carried_next, value_here, own_read, filled_more}
@@ -15,7 +15,7 @@ pub loop-i-preserved : goal.loop-i-preserved
 loop-i-preserved c =
     let s = c.args.self.now in
     let i = c.loop-i.i in
-    let d = length c.args.out.now in
+    let d = c.args.dimensions in
     let xs = c.as_slice-multiplicands.result.now in
     let same : xs ≡ s.multiplicands = c.as_slice-multiplicands.ensures.value ∙ ap (λ (l : Lookup). l.multiplicands) c.self.view_is in
     let m : get_or xs (c.args.entry * d + i) 0 ≡ multiplicand_at d s c.args.entry i = own_read d s c.args.entry i xs c.requires.kind same in
@@ -34,6 +34,7 @@ loop-i-preserved c =
 pub returns : goal.returns
 unfolding vector_of
 returns c =
-    let d = length c.args.out.now in
-    let all : length c.loop-i.out ≡ d = omega arith in
-    fill_by_all (value_at d c.args.self.now c.args.entry) c.loop-i.out d (pos 0) all (λ k h. c.loop-i.invariant.done k (omega arith))
+    let n = length c.args.out.now in
+    let value = value_at c.args.dimensions c.args.self.now c.args.entry in
+    let all : length c.loop-i.out ≡ n = omega arith in
+    rw (take-map-range_with_len value 0 c.args.dimensions n c.requires.front) (fill_by_all value c.loop-i.out n (pos 0) all (λ k h. c.loop-i.invariant.done k (omega arith)))

@@ -1,4 +1,4 @@
-use Rattle.std.proofs.Common.{◌≡◌, ◌<◌, ◌≤◌, [], Some, None, true, get_or, length, fold, ap, sym, ◌∙◌}
+use Rattle.std.proofs.Common.{◌≡◌, ◌<◌, [], Some, None, true, get_or, length, fold, ap, sym, ◌∙◌}
 use Rattle.model_setup.specs.Codebook.{Codebook}
 use Rattle.model_setup.specs.ResidueSetup.{ResidueSetup, Serves, has_values}
 use Rattle.model_setup.specs.ResidueDecoding.{book_of, reading_places, after_reading}
@@ -20,21 +20,6 @@ read_values-requires-clause-book c =
     let within : c.args.pass < length (get_or r.cascades class []) = rw (room.decoder.fits.passes class [] named) c.requires.pass in
     let serves = named_of (Serves has_values d.books.now) r class c.args.pass c.in-Some.number c.index.result.now named read c.in-Some.is (room.decoder.fits.value_books class [] named c.args.pass None within) in
     rw c.from-in-Some.ensures (book_serves has_values d.books.now c.in-Some.number c.index-self-from.result serves)
-
-pub read_values-requires-clause-values : goal.read_values-requires-clause-values
-read_values-requires-clause-values c =
-    let d = c.args.self.now in
-    let r = d.residue.now in
-    let room = c.requires.room in
-    let class = c.index-class.result.now in
-    let place = class_within d c.args.memory.now.classes.items c.args.vector c.args.partition room.decoder room.rows c.requires.vector c.requires.partition in
-    let named = class_named d c.args.memory.now.classes.items _ class room.rows place c.index-class.ensures in
-    let cascades = ap (λ (s : ResidueSetup). s.cascades) c.residue.view_is in
-    let read = rw (cascades, c.from.ensures) at c.index.ensures in
-    let within : c.args.pass < length (get_or r.cascades class []) = rw (room.decoder.fits.passes class [] named) c.requires.pass in
-    let serves = named_of (Serves has_values d.books.now) r class c.args.pass c.in-Some.number c.index.result.now named read c.in-Some.is (room.decoder.fits.value_books class [] named c.args.pass None within) in
-    let small = named_of (λ number. (book_of d.books.now number).dimensions ≤ length c.args.memory.now.values.items) r class c.args.pass c.in-Some.number c.index.result.now named read c.in-Some.is (room.values class [] named c.args.pass None within) in
-    rw (c.from-in-Some.ensures, ← book_found d.books.now c.in-Some.number c.index-self-from.result serves.1) small
 
 pub returns-in-Some-clause-after : goal.returns-in-Some-clause-after
 returns-in-Some-clause-after c =

@@ -1,4 +1,4 @@
-use Rattle.std.proofs.Common.{◌≡◌, ◌⊎◌, ◌*◌, min, length, refl, ap, sym, ◌∙◌}
+use Rattle.std.proofs.Common.{arith, ◌≡◌, ◌⊎◌, ◌*◌, min, length, refl, ap, sym, ◌∙◌}
 use Rattle.std.specs.Prelude.{is_some}
 use Rattle.std.specs.List.{All}
 use Rattle.model_setup.specs.declared.residue.ResidueKind.TheVariants.{Spread, InRow, Interleaved}
@@ -32,7 +32,7 @@ read_passes-ended-requires c =
               begins_apart d lines (rw kind at w.in-Spread.is) sizes c.requires.zero same count
         ];
         rows = begins_unread d c.in_ok-memory.memory.classes.items is.decoder.fits.some_class c.in_ok-memory.ensures.classes;
-        values = c.in_ok-memory.ensures.values;
+        values = omega (arith, c.in_ok-memory.ensures.values);
       };
     }
 
