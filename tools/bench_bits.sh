@@ -2,23 +2,13 @@
 # Measures what reading bits costs: builds a scratch program over bit_reader in a temporary folder,
 # below a copy of the crates that it stands on, and prints the times. It writes nothing in the repository.
 set -euo pipefail
-top=$(cd "$(dirname "$0")/.." && pwd)
-work=$(mktemp -d)
-trap 'rm -rf "$work"' EXIT
-mkdir "$work/crates"
-for crate in model_bits bit_reader; do
-    mkdir "$work/crates/$crate"
-    (cd "$top/crates/$crate" && tar cf - --exclude=./out .) | (cd "$work/crates/$crate" && tar xf -)
-    sed -n "/^$crate:/p" "$top/crates.txt" >>"$work/crates.txt"
-done
-cd "$work"
-rt new crates/bench_bits start_io >"$work/log" 2>&1
-rm -rf BUILD.bazel crates/bench_bits/{BUILD.bazel,proofs,specs,stdin,stdout,must-fail,src}
-mkdir crates/bench_bits/src
-echo 'bench_bits: bit_reader' >>crates.txt
-cat >crates/bench_bits/src/main.rt <<'RATTLE'
+source "$(dirname "$0")/scratch.sh"
+scratch_program bench_bits "bit_reader" model_bits bit_reader
+cat >src/main.rt <<'RATTLE'
 //! Times reading a packet of a thousand bytes many times, whole bytes and fields of some widths.
 #![tactic(auto)]
+
+ghost use Rattle.std.specs.Prelude.{◌≤◌};
 
 use bit_reader::Bits;
 use std::io;
@@ -75,7 +65,4 @@ fn main(rt: HostRuntime) -> io::Result<()> {
     Ok(())
 }
 RATTLE
-sed -i 's/^use bit_reader/ghost use Rattle.std.specs.Prelude.{◌≤◌};\n\nuse bit_reader/' crates/bench_bits/src/main.rt
-cd crates/bench_bits
-rt run >"$work/log" 2>&1 || { cat "$work/log"; exit 1; }
-grep ' ns' "$work/log"
+print_times

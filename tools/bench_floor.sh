@@ -3,21 +3,9 @@
 # below a copy of the crates that it stands on, and prints the times of drawing a curve of 32 points over
 # 1,024 lines and of decoding it, and of a plain loop that writes 1,024 bytes. It writes nothing in the repository.
 set -euo pipefail
-top=$(cd "$(dirname "$0")/.." && pwd)
-work=$(mktemp -d)
-trap 'rm -rf "$work"' EXIT
-mkdir "$work/crates"
-for crate in model_bits model_fixed model_setup bit_reader codebooks floor_one; do
-    mkdir "$work/crates/$crate"
-    (cd "$top/crates/$crate" && tar cf - --exclude=./out .) | (cd "$work/crates/$crate" && tar xf -)
-    sed -n "/^$crate:/p" "$top/crates.txt" >>"$work/crates.txt"
-done
-cd "$work"
-rt new crates/bench_floor start_io >"$work/log" 2>&1
-rm -rf BUILD.bazel crates/bench_floor/{BUILD.bazel,proofs,specs,stdin,stdout,must-fail,src}
-mkdir crates/bench_floor/src
-echo 'bench_floor: floor_one codebooks bit_reader' >>crates.txt
-cat >crates/bench_floor/src/main.rt <<'RATTLE'
+source "$(dirname "$0")/scratch.sh"
+scratch_program bench_floor "floor_one codebooks bit_reader" model_bits model_fixed model_setup bit_reader codebooks floor_one
+cat >src/main.rt <<'RATTLE'
 //! Times drawing a floor's curve over 1,024 lines, and decoding its points.
 #![tactic(auto)]
 
@@ -99,6 +87,4 @@ fn main(rt: HostRuntime) -> io::Result<()> {
     println!(rt; "decoding its points: {spent} ns ({used} used, curve {curve})")
 }
 RATTLE
-cd crates/bench_floor
-rt run >"$work/log" 2>&1 || { cat "$work/log"; exit 1; }
-grep ' ns' "$work/log"
+print_times

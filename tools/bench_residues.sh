@@ -4,21 +4,9 @@
 # 1,024 values from a packet of 500 bytes, and that of a plain loop that writes as many values. It writes
 # nothing in the repository.
 set -euo pipefail
-top=$(cd "$(dirname "$0")/.." && pwd)
-work=$(mktemp -d)
-trap 'rm -rf "$work"' EXIT
-mkdir "$work/crates"
-for crate in sequence model_bits model_fixed model_setup bit_reader codebooks residues; do
-    mkdir "$work/crates/$crate"
-    (cd "$top/crates/$crate" && tar cf - --exclude=./out .) | (cd "$work/crates/$crate" && tar xf -)
-    sed -n "/^$crate:/p" "$top/crates.txt" >>"$work/crates.txt"
-done
-cd "$work"
-rt new crates/bench_residues start_io >"$work/log" 2>&1
-rm -rf BUILD.bazel crates/bench_residues/{BUILD.bazel,proofs,specs,stdin,stdout,must-fail,src}
-mkdir crates/bench_residues/src
-echo 'bench_residues: residues codebooks bit_reader' >>crates.txt
-cat >crates/bench_residues/src/main.rt <<'RATTLE'
+source "$(dirname "$0")/scratch.sh"
+scratch_program bench_residues "residues codebooks bit_reader" sequence model_bits model_fixed model_setup bit_reader codebooks residues
+cat >src/main.rt <<'RATTLE'
 //! Times decoding a residue of type 2 over two vectors of 1,024 values.
 #![tactic(auto)]
 
@@ -101,6 +89,4 @@ fn main(rt: HostRuntime) -> io::Result<()> {
     println!(rt; "decoding: {spent} ns ({decoded} decoded, {left} with bits left)")
 }
 RATTLE
-cd crates/bench_residues
-rt run >"$work/log" 2>&1 || { cat "$work/log"; exit 1; }
-grep ' ns' "$work/log"
+print_times

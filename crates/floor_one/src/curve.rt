@@ -131,8 +131,8 @@ fn corner_at(x: u16, point: Final, multiplier: u32) -> Corner
 }
 
 impl Floor {
-    /// Writes the curve through the flagged points: for each line the number of its decibel value
-    /// (Vorbis I, section 7.2.4, step 2).
+    /// Writes the curve through the flagged points, as `decode` of this floor gave them: for each
+    /// line the number of its decibel value, 0 to 255 (Vorbis I, section 7.2.4, step 2).
     pub fn curve(&self, finals: &Finals, out: &mut [u8])
         requires { AreFinals self.now finals.now }
         ensures { out.new ≡ map (curve_at self.now finals.now) (range_with_len 0 (length out.old)) }

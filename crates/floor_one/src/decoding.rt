@@ -152,9 +152,10 @@ impl Floor {
         self.read_values(bits, books)
     }
 
-    /// Reads the values of the points from a packet in which the floor is used, and gives their
-    /// final values. Where the packet says that it isn't used, or ends before the last value, the
-    /// floor is unused; at the end no bit is left. It takes no memory (Vorbis I, section 7.2.3).
+    /// Reads the values of the points from a packet in which the floor is used, by the books of its
+    /// setup, and gives their final values. Where the packet says that it isn't used, or ends before
+    /// the last value, the floor is unused; at the end no bit is left. It takes no memory
+    /// (Vorbis I, section 7.2.3).
     #[tactic(auto, unfolding(model_setup::specs::FloorCurve::floor_finals, model_setup::specs::FloorCurve::finals_of))]
     pub fn decode(&self, bits: &mut Bits, books: &[Book]) -> Floored
         requires { FloorNamesBooks (length books.now) self.now }

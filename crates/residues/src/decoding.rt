@@ -439,9 +439,10 @@ impl Residue {
     }
 
     /// Decodes the vectors of a packet, of which those that are wanted are read, and writes them
-    /// over the lines, in units of 2^-16. The end of the packet ends the decoding; what was decoded
-    /// before it is kept. It takes its memory before its first bit: where none is found, neither
-    /// lines nor bits have changed (Vorbis I, section 8.6.2).
+    /// over the lines, in units of 2^-16. The books are those of the setup; the lines are as many as
+    /// `wanted` tells of, all of one size and 0. The end of the packet ends the decoding; what was
+    /// decoded before it is kept. It takes its memory before its first bit: where none is found,
+    /// neither lines nor bits have changed (Vorbis I, section 8.6.2).
     pub fn decode(
         &self,
         alloc: Global,

@@ -129,8 +129,8 @@ fn read_cascades(
 }
 
 impl Residue {
-    /// Reads a residue of a type, in a setup of these books. The first cause of a refusal in
-    /// reading order is answered; the bits are of no use then (Vorbis I, section 8.6.1).
+    /// Reads a residue of a type, 0 to 2, in a setup of these books. The first cause of a refusal in
+    /// reading order is answered, or `Memory`; the bits are of no use then (Vorbis I, section 8.6.1).
     #[tactic(auto, unfolding(model_setup::specs::ResidueReading::residue_at))]
     pub fn read(
         alloc: Global,
