@@ -1,10 +1,10 @@
 -- The values of a partition, one after the other by the digits of its class word.
-use Rattle.std.proofs.Common.{◌≡◌, ℕ, ◌+◌, ◌*◌, ◌/◌, ◌%◌, ◌^◌, ◌<◌, List, [], ◌∷◌, ◌++◌, drop, Option, Result, Ok, Err, Bool, refl, ap, sym, ◌∙◌, arith, add-one}
+use Rattle.std.proofs.Common.{◌≡◌, ℕ, ◌+◌, ◌*◌, ◌/◌, ◌%◌, ◌^◌, ◌<◌, List, [], ◌∷◌, ◌++◌, drop, Option, Result, Ok, Err, Bool, ap, sym, ◌∙◌, arith}
 use Rattle.std.specs.Prelude.{slice_get, option_and_then}
 use Rattle.std.specs.List.{range_with_len}
 use Rattle.std.proofs.lemmas.Nat.{one_shl}
-use Rattle.std.proofs.Math.Nat.{pow-suc, div-div-eq-div-mul}
 use Rattle.model_bits.specs.Reading.{each, with_front}
+use Rattle.codebooks.proofs.Fills.{digits_next}
 use Rattle.model_bits.proofs.Each.{each_number_goes_on, each_number_fails}
 use Rattle.model_setup.specs.Codebook.{Codebook}
 use Rattle.model_setup.specs.FloorSetup.{FloorClass}
@@ -15,9 +15,7 @@ pub power_is : (bits inside : ℕ) → inside ≡ bits → bits < 4 → 1 * 2 ^ 
 power_is bits inside e small = one_shl inside 32 (omega arith) ∙ ap (λ n. 2 ^ n) e
 
 pub next_digits : (word0 word base i divisor : ℕ) → word ≡ word0 / base ^ i → divisor ≡ base → word / divisor ≡ word0 / base ^ (i + 1)
-next_digits word0 word base i divisor e f =
-    let p : base ^ i * base ≡ base ^ (i + 1) = rw (add-one, pow-suc) refl in
-    ap (λ n. n / divisor) e ∙ ap (λ n. word0 / base ^ i / n) f ∙ div-div-eq-div-mul word0 (base ^ i) base ∙ ap (λ n. word0 / n) p
+next_digits word0 word base i divisor e f = ap (λ n. n / divisor) e ∙ ap (λ n. word0 / base ^ i / n) f ∙ digits_next word0 base i
 
 -- the reading of value j
 abbrev pub value_reading : List Codebook → FloorClass → ℕ → ℕ → List Bool → Result (ℕ × List Bool) (Unit {0})

@@ -1,15 +1,10 @@
 -- The digits of a class word, the lowest one written first, to the last place.
-use Rattle.std.proofs.Common.{◌≡◌, ℕ, ◌+◌, ◌-◌, ◌*◌, ◌/◌, ◌%◌, ◌^◌, ◌<◌, ◌≤◌, ◌≢◌, inl, inr, List, length, get_or, set, refl, ap, sym, ◌∙◌, arith, add-one, get_or-set_other, get_or-set_same}
+use Rattle.std.proofs.Common.{◌≡◌, ℕ, ◌+◌, ◌-◌, ◌/◌, ◌%◌, ◌^◌, ◌<◌, ◌≤◌, ◌≢◌, inl, inr, List, length, get_or, set, ap, sym, ◌∙◌, arith, get_or-set_other, get_or-set_same}
 use Rattle.std.proofs.lemmas.Bool.{cases_eq}
-use Rattle.std.proofs.Math.Nat.{pow-suc, pow-zero, div-one, div-div-eq-div-mul}
+use Rattle.std.proofs.Math.Nat.{pow-zero, div-one}
 
 pub digits_none : (word base : ℕ) → word ≡ word / base ^ 0
 digits_none word base = rw pow-zero (sym (div-one word))
-
-pub digits_next : (word base i : ℕ) → word / base ^ i / base ≡ word / base ^ (i + 1)
-digits_next word base i =
-    let power : base ^ i * base ≡ base ^ (i + 1) = rw (add-one, pow-suc) refl in
-    div-div-eq-div-mul word (base ^ i) base ∙ ap (λ n. word / n) power
 
 pub digits_more : (classes : List ℕ) (places k word base rest : ℕ) → length classes ≡ places → k < places → rest ≡ word / base ^ k
     → ((j : ℕ) → j < places → places - k ≤ j → get_or classes j 0 ≡ word / base ^ (places - 1 - j) % base)

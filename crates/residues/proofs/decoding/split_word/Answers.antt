@@ -1,6 +1,7 @@
 use Rattle.std.proofs.Common.{◌-◌, ◌/◌, ◌%◌, ◌^◌, length, ap, ◌∙◌, arith}
 use Rattle.std.proofs.lemmas.List.FromFn.{fill_by_all}
-use Rattle.residues.proofs.Digits.{digits_none, digits_next, digits_more}
+use Rattle.codebooks.proofs.Fills.{digits_next}
+use Rattle.residues.proofs.Digits.{digits_none, digits_more}
 use Rattle.residues.proofs.decoding.split_word.Goals as goal
 
 pub loop-k-init : goal.loop-k-init
