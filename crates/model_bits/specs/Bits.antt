@@ -20,8 +20,8 @@ abbrev pub number_of : List Bool → ℕ
 number_of [] = 0
 number_of (bit ∷ bits) = bit_value bit + 2 * number_of bits
 
--- a reader of a packet: how many bits the packet has, and which are left.
--- After the end of the packet was met, none are left: everything that is read then is the end.
+-- a reader of a packet: how many bits the packet has, and which are left. After the end of the
+-- packet was met, none are left: everything that is read then is the end.
 pub record BitReader : Type 0 where
   pub total : ℕ
   pub left : List Bool

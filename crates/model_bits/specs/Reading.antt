@@ -1,4 +1,5 @@
--- Reading fields one after the other from the bits that are left, up to the first cause of a refusal.
+-- Reading fields one after the other from the bits that are left, up to the first cause of a
+-- refusal.
 use Rattle.std.specs.Prelude.{◌≡◌, ℕ, zero, suc, List, [], ◌∷◌, ◌++◌, Option, Some, None, Result, Ok, Err, Bool, if◌then◌else◌}
 use Rattle.model_bits.specs.Bits.{BitReader, take_bits}
 
@@ -18,7 +19,8 @@ refuse e left = Err e
 abbrev pub require : {E : Type 0} → Bool → E → Reading E ℕ
 require b e left = if b then Ok (0, left) else Err e
 
-abbrev pub then_read : {E A B : Type 0} → Result (A × List Bool) E → (A → Reading E B) → Result (B × List Bool) E
+abbrev pub then_read : {E A B : Type 0} → Result (A × List Bool) E → (A → Reading E B)
+    → Result (B × List Bool) E
 then_read (Ok x) f = f x.0 x.1
 then_read (Err e) f = Err e
 
@@ -57,7 +59,8 @@ each m (x ∷ xs) = do
   give (y ∷ ys)
 
 -- values that were read before, and those that are still read
-abbrev pub with_front : {E A : Type 0} → List A → Result (List A × List Bool) E → Result (List A × List Bool) E
+abbrev pub with_front : {E A : Type 0} → List A → Result (List A × List Bool) E
+    → Result (List A × List Bool) E
 with_front front (Ok x) = Ok (front ++ x.0, x.1)
 with_front front (Err e) = Err e
 
@@ -78,9 +81,9 @@ abbrev pub relabel : {E F A : Type 0} → (F → E) → Reading F A → Reading 
 relabel f m left = renamed f (m left)
 
 -- the value or the cause alone, whatever bits are left behind it
-abbrev pub value_of : {E A : Type 0} → Result (A × List Bool) E → Result A E
-value_of (Ok x) = Ok x.0
-value_of (Err e) = Err e
+abbrev pub without_rest : {E A : Type 0} → Result (A × List Bool) E → Result A E
+without_rest (Ok x) = Ok x.0
+without_rest (Err e) = Err e
 
 -- A reading of a packet whose one cause is the end of the packet.
 abbrev pub PacketReading : Type 0 → Type 0
@@ -90,14 +93,15 @@ PacketReading A = Reading (Unit {0}) A
 abbrev pub packet_bits : ℕ → PacketReading ℕ
 packet_bits count = bits tt count
 
--- A call that answers None at the end of the packet did what the reading says, and left no bits there.
-abbrev pub ReadsOrEnds : {X A : Type 0} → (X → A) → Option X → BitReader → Result (A × List Bool) (Unit {0}) → Type 0
+-- A call that answers None at the end of the packet did what the reading says, and left no bits
+-- there.
+abbrev pub ReadsOrEnds : {X A : Type 0} → (X → A) → Option X → BitReader
+    → Result (A × List Bool) (Unit {0}) → Type 0
 ReadsOrEnds view (Some x) new reading = reading ≡ Ok (view x, new.left)
 ReadsOrEnds view None new reading = (reading ≡ Err tt) × (new.left ≡ [])
 
--- A call of the code did what the reading says, in the reader's bits and in its result or cause.
--- The view says how a result of the code is seen. (A call that takes memory has a word of its own,
--- which leaves want of memory free.)
-abbrev pub ReadsAs : {E X A : Type 0} → (X → A) → Result X E → BitReader → Result (A × List Bool) E → Type 0
-ReadsAs view (Ok x) new reading = reading ≡ Ok (view x, new.left)
-ReadsAs view (Err e) new reading = reading ≡ Err e
+-- What a call of the code answered and the bits that it left, as a reading gives them; the view
+-- says how a result of the code is seen.
+abbrev pub leaving : {E X A : Type 0} → List Bool → (X → A) → Result X E → Result (A × List Bool) E
+leaving left view (Ok x) = Ok (view x, left)
+leaving left view (Err e) = Err e

@@ -1,8 +1,8 @@
 -- The definitions on small values.
 use Rattle.std.proofs.Common.{◌≡◌, refl, pos, negsuc, neg_ℤ, ◌*◌, ◌^◌}
-use Rattle.model_fixed.specs.Fixed.{clamp, floor_shift, fix}
+use Rattle.model_fixed.specs.Fixed.{clamp, shift_down, fix}
 
-rounds_down : floor_shift (negsuc 4) 1 ≡ negsuc 2
+rounds_down : shift_down (negsuc 4) 1 ≡ negsuc 2
 rounds_down = refl
 
 limits : clamp 8 (negsuc 8) ≡ negsuc 7

@@ -4,7 +4,7 @@ use Rattle.std.specs.Prelude.{codes, option_map}
 use Rattle.std.proofs.lemmas.List.Elements.{All-nil, All-cons}
 use native.Mathlib.Decide.{dec_le}
 use Rattle.model_bits.specs.Bits.{bits_of}
-use Rattle.model_bits.specs.Reading.{◌>>=◌, ◌>>◌, then_read, or_end, give, relabel, times, value_of}
+use Rattle.model_bits.specs.Reading.{◌>>=◌, ◌>>◌, then_read, or_end, give, relabel, times, without_rest}
 use Rattle.model_bits.proofs.ByPlace.{takes_by_place}
 use Rattle.model_bits.proofs.Times.{times-first, times-refused}
 use Rattle.model_setup.specs.Fields.{Field, IsRight, IsRightNumber, IsWrongNumber, GoesBy, any_number, byte_fields}
@@ -109,4 +109,4 @@ counts bytes fields (Err cause) h = h
 
 pub comment_names_leftmost : CommentNamesLeftmost
 comment_names_leftmost bytes =
-    counts bytes (comment_fields bytes) (value_of (comment_at (bits_of bytes))) (goes_by comments.End bytes (comment_fields bytes) _ (comment_at (bits_of bytes)) (comment_outcome bytes))
+    counts bytes (comment_fields bytes) (without_rest (comment_at (bits_of bytes))) (goes_by comments.End bytes (comment_fields bytes) _ (comment_at (bits_of bytes)) (comment_outcome bytes))

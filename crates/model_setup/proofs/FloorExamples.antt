@@ -7,7 +7,7 @@ use Rattle.model_setup.specs.declared.floor.FloorFault.TheVariants as causes
 use Rattle.model_setup.specs.Codebook.{Codebook}
 use Rattle.model_setup.specs.Codewords.{size_of, first_free, words_behind, filled, book_words, begins_with, begins, digits_of, entry_begun, entry_by, entry_at}
 use Rattle.model_setup.specs.FloorSetup.{FloorClass, FloorSetup}
-use Rattle.model_setup.specs.FloorReading.{book_number_at, master_at, subclass_book_at, class_at, x_values_at, partitions_at, floor_at}
+use Rattle.model_setup.specs.FloorReading.{book_number_at, master_at, subclass_book_at, class_at, x_values_at, partition_classes_at, partitions_at, floor_at}
 use Rattle.model_setup.specs.FloorPacket.{entry_or_0_at, partition_values_at, y_values_at, nonzero_values_at, floor_values}
 use Rattle.model_setup.specs.FloorCurve.{nearest_below, nearest_above, low_neighbour, high_neighbour, render_point, predicted, final_value, values_up_to, is_flagged, finals_up_to, finals_of, curve_at}
 
@@ -115,19 +115,19 @@ splits = refl
 
 -- one partition of class 0, of one value, whose book is book 0; multiplier 1, range of 7 bits, line 64
 reads_floor : floor_at 1 (bits_of_number 5 1 ++ bits_of_number 4 0 ++ bits_of_number 3 0 ++ bits_of_number 2 0 ++ bits_of_number 8 1 ++ bits_of_number 2 0 ++ bits_of_number 4 7 ++ bits_of_number 7 64) ≡ Ok (three, [])
-unfolding book_number_at master_at subclass_book_at class_at x_values_at partitions_at floor_at
+unfolding book_number_at master_at subclass_book_at class_at x_values_at partition_classes_at partitions_at floor_at
 reads_floor = refl
 
 -- no partitions, no classes: two points alone
 reads_flat : floor_at 0 (bits_of_number 5 0 ++ bits_of_number 2 0 ++ bits_of_number 4 5) ≡ Ok (record { partitions = []; classes = []; multiplier = 1; x_values = 0 ∷ 32 ∷ [] }, [])
-unfolding x_values_at partitions_at floor_at
+unfolding x_values_at partition_classes_at partitions_at floor_at
 reads_flat = refl
 
 -- book 1 where there is one book, and a second point at line 0
 no_such_book : floor_at 1 (bits_of_number 5 1 ++ bits_of_number 4 0 ++ bits_of_number 3 0 ++ bits_of_number 2 0 ++ bits_of_number 8 2) ≡ Err causes.Book
-unfolding book_number_at master_at subclass_book_at class_at partitions_at floor_at
+unfolding book_number_at master_at subclass_book_at class_at partition_classes_at partitions_at floor_at
 no_such_book = refl
 
 two_at_one_line : floor_at 1 (bits_of_number 5 1 ++ bits_of_number 4 0 ++ bits_of_number 3 0 ++ bits_of_number 2 0 ++ bits_of_number 8 1 ++ bits_of_number 2 0 ++ bits_of_number 4 7 ++ bits_of_number 7 0) ≡ Err causes.List
-unfolding book_number_at master_at subclass_book_at class_at x_values_at partitions_at floor_at
+unfolding book_number_at master_at subclass_book_at class_at x_values_at partition_classes_at partitions_at floor_at
 two_at_one_line = refl

@@ -4,7 +4,7 @@ use Rattle.std.specs.Prelude.{codes, option_map, sum_by}
 use Rattle.std.specs.List.{range_with_len}
 use native.Mathlib.Decide.{dec_le}
 use Rattle.model_bits.specs.Bits.{bits_of, take_bits}
-use Rattle.model_bits.specs.Places.{bit_at}
+use Rattle.model_bits.specs.Places.{packet_bit}
 use Rattle.model_bits.specs.Reading.{Reading, ◌>>=◌, ◌>>◌, then_read, require, or_end, give, relabel}
 use Rattle.model_bits.proofs.ByPlace.{takes_by_place}
 use Rattle.model_setup.specs.Fields.{Field, IsWrongNumber, any_number, byte_fields}
@@ -38,7 +38,7 @@ module _ (bytes : List ℕ) where
 
   -- the number of so many bits from a place on
   abbrev sum_at : ℕ → ℕ → ℕ
-  sum_at place width = sum_by (λ j. bit_at bytes (place + j) * 2 ^ j) (range_with_len 0 width)
+  sum_at place width = sum_by (λ j. packet_bit bytes (place + j) * 2 ^ j) (range_with_len 0 width)
 
   low_half : sum_at 224 4 ≡ sum_at 224 8 % 16
   low_half = omega arith

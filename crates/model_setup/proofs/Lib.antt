@@ -5,9 +5,8 @@ pub mod Examples
 pub mod Sizes
 pub mod Digits
 pub mod Runs
-pub mod BookFails
 pub mod BookExamples
 pub mod Roots
 pub mod FloorExamples
 pub mod ResidueExamples
-pub mod ResidueFaults
+pub mod SetupExamples

@@ -7,8 +7,8 @@ use native.Mathlib.Decide.{dec_le}
 use Rattle.std.specs.List.{range_with_len}
 use Rattle.std.specs.Prelude.{sum_by}
 use Rattle.model_bits.specs.Bits.{bits_of, take_bits}
-use Rattle.model_bits.specs.Places.{bit_at, number_at}
-use Rattle.model_bits.specs.Reading.{Reading, ◌>>=◌, ◌>>◌, then_read, renamed, require, or_end, bits, relabel, give, value_of}
+use Rattle.model_bits.specs.Places.{packet_bit, number_at}
+use Rattle.model_bits.specs.Reading.{Reading, ◌>>=◌, ◌>>◌, then_read, renamed, require, or_end, bits, relabel, give, without_rest}
 use Rattle.model_bits.proofs.ByPlace.{takes_by_place}
 use Rattle.model_setup.specs.Fields.{Field, IsRight, IsRightNumber, IsWrong, IsWrongNumber, NamesLeftmost, GoesBy, byte_fields}
 use Rattle.model_setup.specs.HeaderPackets.{bytes_at}
@@ -16,11 +16,11 @@ use Rattle.model_setup.specs.declared.head.StartCause.{StartCause}
 use Rattle.model_setup.specs.declared.head.StartCause.TheVariants as starts
 
 -- whether there are so many bits
-pub number_there : (bytes : List ℕ) (place width : ℕ) → place + width ≤ 8 * length bytes → number_at bytes place width ≡ Some (sum_by (λ j. bit_at bytes (place + j) * 2 ^ j) (range_with_len 0 width))
-number_there bytes place width within = ap (λ b. cond b (Some (sum_by (λ j. bit_at bytes (place + j) * 2 ^ j) (range_with_len 0 width))) None) (le-leb (place + width) (8 * length bytes) within)
+pub number_there : (bytes : List ℕ) (place width : ℕ) → place + width ≤ 8 * length bytes → number_at bytes place width ≡ Some (sum_by (λ j. packet_bit bytes (place + j) * 2 ^ j) (range_with_len 0 width))
+number_there bytes place width within = ap (λ b. cond b (Some (sum_by (λ j. packet_bit bytes (place + j) * 2 ^ j) (range_with_len 0 width))) None) (le-leb (place + width) (8 * length bytes) within)
 
 pub number_missing : (bytes : List ℕ) (place width : ℕ) → 8 * length bytes < place + width → number_at bytes place width ≡ None
-number_missing bytes place width past = ap (λ b. cond b (Some (sum_by (λ j. bit_at bytes (place + j) * 2 ^ j) (range_with_len 0 width))) None) (lt-leb (place + width) (8 * length bytes) past)
+number_missing bytes place width past = ap (λ b. cond b (Some (sum_by (λ j. packet_bit bytes (place + j) * 2 ^ j) (range_with_len 0 width))) None) (lt-leb (place + width) (8 * length bytes) past)
 
 module _ {E : Type 0} (end : E) (bytes : List ℕ) where
   -- what was read up to a place, by the fields before it
@@ -63,7 +63,7 @@ module _ {E : Type 0} (end : E) (bytes : List ℕ) where
     field_outcome f within k =
         elim (dec_le (field.place + field.width) (8 * length bytes)) [
           | yes there ↦
-              let number = sum_by (λ j. bit_at bytes (field.place + j) * 2 ^ j) (range_with_len 0 field.width) in
+              let number = sum_by (λ j. packet_bit bytes (field.place + j) * 2 ^ j) (range_with_len 0 field.width) in
               let n : number_at bytes field.place field.width ≡ Some number = number_there bytes field.place field.width there in
               let t : take_bits field.width (drop field.place (bits_of bytes)) ≡ Some (number, drop (field.place + field.width) (bits_of bytes)) = takes_by_place bytes field.place field.width within ∙ ap (option_map (λ v. (v, drop (field.place + field.width) (bits_of bytes)))) n in
               subst (λ o. Outcome (field ∷ others) last (then_read (or_end end o) f)) (sym t) (k number there n)
@@ -134,6 +134,6 @@ module _ {E : Type 0} (causes : StartCause → E) (bytes : List ℕ) where
       (λ _. relabel causes (bytes_at others)) (λ number n. bytes_read (place + 8) others) within)
 
 -- what a reading answers, whatever bits are left behind it
-pub goes_by : {E A : Type 0} (end : E) (bytes : List ℕ) (fields : List (Field E)) (next : ℕ) (r : Result (A × List Bool) E) → Outcome end bytes fields next r → GoesBy end bytes fields (value_of r)
+pub goes_by : {E A : Type 0} (end : E) (bytes : List ℕ) (fields : List (Field E)) (next : ℕ) (r : Result (A × List Bool) E) → Outcome end bytes fields next r → GoesBy end bytes fields (without_rest r)
 goes_by end bytes fields next (Ok x) h = h.0
 goes_by end bytes fields next (Err cause) h = h

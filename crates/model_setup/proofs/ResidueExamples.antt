@@ -1,5 +1,5 @@
 -- The definitions of residues on small values.
-use Rattle.std.proofs.Common.{◌≡◌, ℕ, List, [], ◌∷◌, ◌++◌, Option, Some, None, Ok, Err, true, false, Bool, pos, take, refl}
+use Rattle.std.proofs.Common.{◌≡◌, ℕ, List, [], ◌∷◌, ◌++◌, Option, Some, None, Ok, Err, true, false, Bool, pos, take, replicate, refl}
 use Rattle.model_bits.specs.Bits.{bits_of_number}
 use Rattle.model_fixed.specs.Fixed.{fix}
 use Rattle.model_setup.specs.declared.book.LookupKind.TheVariants.{Lattice}
@@ -7,11 +7,11 @@ use Rattle.model_setup.specs.declared.residue.ResidueKind.{ResidueKind}
 use Rattle.model_setup.specs.declared.residue.ResidueKind.TheVariants.{Spread, InRow, Interleaved}
 use Rattle.model_setup.specs.declared.residue.ResidueFault.TheVariants as causes
 use Rattle.model_setup.specs.Codebook.{Codebook}
-use Rattle.model_setup.specs.Codewords.{size_of, first_free, words_behind, filled, book_words, entry_by, entry_at}
+use Rattle.model_setup.specs.Codewords.{size_of, first_free, words_behind, filled, book_words, entry_by, entry_at, entry_begun, begins, begins_with, digits_of}
 use Rattle.model_setup.specs.Vectors.{value_at, vector_of, vector_at}
 use Rattle.model_setup.specs.ResidueSetup.{ResidueSetup}
-use Rattle.model_setup.specs.ResidueReading.{serving_book_at, passes_at, pass_book_at, cascade_at, cascades_at, residue_at}
-use Rattle.model_setup.specs.ResidueDecoding.{Word, Part, group_steps, pass_steps, steps, reading_places, after_reading, after_step, decoded_from, residue_vectors}
+use Rattle.model_setup.specs.ResidueReading.{serving_book_at, pass_flags_at, pass_book_at, cascade_at, cascades_at, residue_at}
+use Rattle.model_setup.specs.ResidueDecoding.{Word, Part, group_steps, pass_steps, steps, reading_places, after_reading, after_step, decoded_from, start, residue_vectors}
 
 -- a book of one entry, without values, and one of one entry with three values of a quarter
 abbrev class_book : Codebook
@@ -71,6 +71,17 @@ rows : reading_places InRow 10 7 3 ≡ (10 ∷ 11 ∷ 12 ∷ []) ∷ (13 ∷ 14 
 unfolding reading_places
 rows = refl
 
+-- a class word of four classes, of which two partitions have the first two
+abbrev four_named : List Codebook
+four_named = record { dimensions = 4; lengths = replicate 16 (Some 4); lookup = None } ∷ []
+
+abbrev two_classes : ResidueSetup
+two_classes = record { kind = InRow; begin = 0; end = 4; partition_size = 2; class_book = 0; cascades = first_pass None ∷ first_pass None ∷ [] }
+
+cuts_word : (decoded_from four_named two_classes 4 (true ∷ []) (start two_classes 4 1 (bits_of_number 4 2))).classes ≡ 0 ∷ 1 ∷ []
+unfolding size_of first_free words_behind filled book_words entry_by entry_at entry_begun begins begins_with digits_of group_steps pass_steps steps reading_places after_reading after_step decoded_from
+cuts_word = refl
+
 -- ---- setups
 
 abbrev front : List Bool
@@ -78,7 +89,7 @@ front = bits_of_number 24 0 ++ bits_of_number 24 4 ++ bits_of_number 24 1 ++ bit
 
 -- one class with a book in the first pass: low bits 1, no high bits
 reads_residue : residue_at 1 books (front ++ bits_of_number 8 0 ++ bits_of_number 3 1 ++ bits_of_number 1 0 ++ bits_of_number 8 1) ≡ Ok (small InRow, [])
-unfolding serving_book_at passes_at pass_book_at cascade_at cascades_at residue_at
+unfolding serving_book_at pass_flags_at pass_book_at cascade_at cascades_at residue_at
 reads_residue = refl
 
 -- a type above 2, a class book that isn't there, a book without values in a pass
@@ -91,5 +102,5 @@ unfolding serving_book_at residue_at
 no_class_book = refl
 
 no_values : residue_at 1 books (front ++ bits_of_number 8 0 ++ bits_of_number 3 1 ++ bits_of_number 1 0 ++ bits_of_number 8 0) ≡ Err causes.Book
-unfolding serving_book_at passes_at pass_book_at cascade_at cascades_at residue_at
+unfolding serving_book_at pass_flags_at pass_book_at cascade_at cascades_at residue_at
 no_values = refl

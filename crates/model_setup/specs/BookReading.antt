@@ -1,7 +1,7 @@
--- A codebook as its bits stand in a setup packet (Vorbis I, section 3.2.1), with the first cause of a refusal in reading order.
-use Rattle.std.specs.Prelude.{◌≡◌, ℕ, zero, suc, ◌+◌, ◌-◌, List, [], ◌++◌, length, Option, Some, None, is_some, Result, Ok, Err, Bool, nat_le, nat_lt, ◌==◌, if◌then◌else◌, replicate}
+-- A codebook as its bits stand in a setup packet (Vorbis I, section 3.2.1), with the first cause of
+-- a refusal in reading order.
+use Rattle.std.specs.Prelude.{◌≡◌, ℕ, zero, suc, ◌+◌, ◌-◌, List, [], ◌++◌, length, Option, Some, None, is_some, nat_le, nat_lt, ◌==◌, if◌then◌else◌, replicate}
 use Rattle.std.specs.Int.{w32, leading_zeros}
-use Rattle.model_bits.specs.Bits.{BitReader}
 use Rattle.model_bits.specs.Reading.{Reading, ◌>>=◌, ◌>>◌, give, refuse, require, bits, times}
 use Rattle.model_setup.specs.declared.book.BookFault.{BookFault}
 use Rattle.model_setup.specs.declared.book.BookFault.TheVariants as causes
@@ -11,16 +11,6 @@ use Rattle.model_setup.specs.declared.book.LookupKind.TheVariants.{Lattice, Tess
 use Rattle.model_setup.specs.Codebook.{Codebook, Lookup}
 use Rattle.model_setup.specs.Codewords.{book_words}
 use Rattle.model_setup.specs.Vectors.{multiplicand_count}
-
--- want of memory is no cause of the packet's, and says nothing of it
-abbrev pub Fails : {A : Type 0} → BookFault → Result (A × List Bool) BookFault → Type 0
-Fails causes.Memory reading = Unit {0}
-Fails e reading = reading ≡ Err e
-
--- what was read is what the bits say: the value and the bits after it, or the first cause
-abbrev pub ReadsAs : {X A : Type 0} → (X → A) → Result X BookFault → BitReader → Result (A × List Bool) BookFault → Type 0
-ReadsAs view (Ok x) new reading = reading ≡ Ok (view x, new.left)
-ReadsAs view (Err e) new reading = Fails e reading
 
 abbrev pub field : ℕ → Reading BookFault ℕ
 field count = bits causes.End count
@@ -51,7 +41,8 @@ entry_length_at (suc sparse) = do
   used ← field 1
   if used == 1 then length_at else give None
 
--- runs of one length after the other: so many lengths up to 32 are left, this is the next, and so many entries remain
+-- runs of one length after the other: so many lengths up to 32 are left, this is the next, and so
+-- many entries remain
 unfoldable pub runs_at : ℕ → ℕ → ℕ → Reading BookFault (List (Option ℕ))
 runs_at more len zero = give []
 runs_at zero len (suc remain) = refuse causes.Tree
@@ -94,7 +85,13 @@ table_at kind dimensions entries most = do
   sequence ← field 1
   require (nat_le (multiplicand_count kind dimensions entries) most) causes.Limit
   multiplicands ← times (multiplicand_count kind dimensions entries) (field (value_bits + 1))
-  give (Some (record { kind = kind; minimum = minimum; delta = delta; sequence = sequence == 1; multiplicands = multiplicands }))
+  give (Some (record {
+    kind = kind;
+    minimum = minimum;
+    delta = delta;
+    sequence = sequence == 1;
+    multiplicands = multiplicands;
+  }))
 
 abbrev pub lookup_of_type : ℕ → ℕ → ℕ → ℕ → Reading BookFault (Option Lookup)
 lookup_of_type kind dimensions entries most =
@@ -121,5 +118,8 @@ book_at budget = do
   lookup ← lookup_at front.0 front.1 budget.multiplicands
   give (
     record { dimensions = front.0; lengths = lengths; lookup = lookup },
-    record { entries = budget.entries - front.1; multiplicands = budget.multiplicands - multiplicands_of lookup },
+    record {
+      entries = budget.entries - front.1;
+      multiplicands = budget.multiplicands - multiplicands_of lookup;
+    },
   )

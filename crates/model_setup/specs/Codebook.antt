@@ -10,7 +10,8 @@ pub record Lookup : Type 0 where
   pub sequence : Bool
   pub multiplicands : List ℕ
 
--- a codebook: the length of each entry's codeword, where the entry is used, and how vectors are made, if they are
+-- a codebook: the length of each entry's codeword, where the entry is used, and how vectors are
+-- made, if they are
 pub record Codebook : Type 0 where
   pub dimensions : ℕ
   pub lengths : List (Option ℕ)

@@ -1,5 +1,5 @@
--- The codewords of a book (Vorbis I, section 3.2.1), and reading an entry by them.
--- A codeword is kept as an interval: it is the highest bits of the numbers below 2 ^ 32 that belong to it.
+-- The codewords of a book (Vorbis I, section 3.2.1), and reading an entry by them. A codeword is
+-- kept as an interval: it is the highest bits of the numbers below 2 ^ 32 that belong to it.
 use Rattle.std.specs.Prelude.{ℕ, zero, suc, ◌≡◌, ◌+◌, ◌-◌, ◌*◌, ◌^◌, ◌<◌, ◌≤◌, ◌⊎◌, List, [], ◌∷◌, ◌++◌, drop, Option, Some, None, Bool, true, false, ◌||◌, ◌&&◌, ◌==◌, nat_le, sum_by, option_map, option_and_then, not, if◌then◌else◌}
 use Rattle.std.specs.List.{find, list_all, range_with_len}
 use Rattle.std.specs.Int.{bit_at}
@@ -18,22 +18,28 @@ is_apart start size w = nat_le (start + size) w.start || nat_le (w.start + size_
 abbrev pub is_unclaimed : List Word → ℕ → ℕ → Bool
 is_unclaimed earlier len k = list_all (is_apart (k * size_of len) (size_of len)) earlier
 
--- where the first interval for a codeword of this length begins that meets none of those of the earlier words
+-- where the first interval for a codeword of this length begins that meets none of those of the
+-- earlier words
 unfoldable pub first_free : List Word → ℕ → Option ℕ
-first_free earlier len = option_map (λ k. k * size_of len) (find (is_unclaimed earlier len) (range_with_len 0 (2 ^ len)))
+first_free earlier len = option_map (λ k. k * size_of len)
+    (find (is_unclaimed earlier len) (range_with_len 0 (2 ^ len)))
 
--- the earlier words and those of the entries from this one on, which have these lengths; none where one finds no place
+-- the earlier words and those of the entries from this one on, which have these lengths; none where
+-- one finds no place
 unfoldable pub words_behind : List Word → ℕ → List (Option ℕ) → Option (List Word)
 words_behind earlier entry [] = Some earlier
 words_behind earlier entry (None ∷ lengths) = words_behind earlier (entry + 1) lengths
 words_behind earlier entry (Some len ∷ lengths) =
-    option_and_then (λ start. words_behind (earlier ++ record { entry = entry; len = len; start = start } ∷ []) (entry + 1) lengths) (first_free earlier len)
+    option_and_then (λ start.
+    words_behind (earlier ++ record { entry = entry; len = len; start = start }
+    ∷ []) (entry + 1) lengths) (first_free earlier len)
 
 -- how many numbers belong to the words
 unfoldable pub filled : List Word → ℕ
 filled words = sum_by (λ (w : Word). size_of w.len) words
 
--- whether a book may have these words: they fill all numbers, or the book has no used entry, or one, of length 1
+-- whether a book may have these words: they fill all numbers, or the book has no used entry, or
+-- one, of length 1
 abbrev pub is_right : List Word → Bool
 is_right [] = true
 is_right (word ∷ []) = word.len == 1
@@ -89,7 +95,8 @@ abbrev pub entry_of : Option (List Word) → List Bool → Option (ℕ × List B
 entry_of None left = None
 entry_of (Some words) left = entry_by words left
 
--- the entry that a book whose entries have these lengths reads, and the bits after it; none at the end of the packet, and where no entry is used
+-- the entry that a book whose entries have these lengths reads, and the bits after it; none at the
+-- end of the packet, and where no entry is used
 unfoldable pub entry_at : List (Option ℕ) → List Bool → Option (ℕ × List Bool)
 entry_at lengths left = entry_of (book_words lengths) left
 

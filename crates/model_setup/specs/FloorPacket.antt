@@ -72,7 +72,8 @@ nonzero_values_at books floor = do
   values_if books floor nonzero
 
 -- a floor whose packet ends before its last value is unused, and no bit is left then
-abbrev pub unused_at_end : Result (Option (List ℕ) × List Bool) (Unit {0}) → Option (List ℕ) × List Bool
+abbrev pub unused_at_end : Result (Option (List ℕ) × List Bool) (Unit {0})
+    → Option (List ℕ) × List Bool
 unused_at_end (Ok read) = read
 unused_at_end (Err e) = (None, [])
 

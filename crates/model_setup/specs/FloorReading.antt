@@ -4,6 +4,7 @@ use Rattle.std.specs.Prelude.{ℕ, ◌+◌, ◌-◌, ◌^◌, List, ◌∷◌, O
 use Rattle.model_bits.specs.Reading.{Reading, ◌>>=◌, ◌>>◌, give, require, bits, times}
 use Rattle.model_setup.specs.declared.floor.FloorFault.{FloorFault}
 use Rattle.model_setup.specs.declared.floor.FloorFault.TheVariants as causes
+use Rattle.model_setup.specs.declared.floor.TheConstants.{MOST_POINTS}
 use Rattle.model_setup.specs.FloorSetup.{FloorClass, FloorSetup, class_count, value_count, is_distinct}
 
 abbrev pub floor_field : ℕ → Reading FloorFault ℕ
@@ -41,21 +42,31 @@ class_at books = do
   subclass_bits ← floor_field 2
   master ← master_at books subclass_bits
   subclass_books ← times (2 ^ subclass_bits) (subclass_book_at books)
-  give (record { dimensions = dimensions + 1; subclass_bits = subclass_bits; master = master; books = subclass_books })
+  give (record {
+    dimensions = dimensions + 1;
+    subclass_bits = subclass_bits;
+    master = master;
+    books = subclass_books;
+  })
 
--- the lines of the points: 0, the end of the range, and so many others of so many bits
+-- the bins of the points: 0, the end of the range, and so many others of so many bits
 unfoldable pub x_values_at : ℕ → ℕ → Reading FloorFault (List ℕ)
 x_values_at range_bits count = do
-  require (nat_le (count + 2) 65) causes.List
+  require (nat_le (count + 2) MOST_POINTS) causes.List
   others ← times count (floor_field range_bits)
   require (is_distinct (0 ∷ 2 ^ range_bits ∷ others)) causes.List
   give (0 ∷ 2 ^ range_bits ∷ others)
 
+-- the class of each partition
+unfoldable pub partition_classes_at : Reading FloorFault (List ℕ)
+partition_classes_at = do
+  count ← floor_field 5
+  times count (floor_field 4)
+
 -- the class of each partition, and the classes
 unfoldable pub partitions_at : ℕ → Reading FloorFault (List ℕ × List FloorClass)
 partitions_at books = do
-  count ← floor_field 5
-  partitions ← times count (floor_field 4)
+  partitions ← partition_classes_at
   classes ← times (class_count partitions) (class_at books)
   give (partitions, classes)
 
@@ -66,4 +77,9 @@ floor_at books = do
   multiplier ← floor_field 2
   range_bits ← floor_field 4
   x_values ← x_values_at range_bits (value_count front.1 front.0)
-  give (record { partitions = front.0; classes = front.1; multiplier = multiplier + 1; x_values = x_values })
+  give (record {
+    partitions = front.0;
+    classes = front.1;
+    multiplier = multiplier + 1;
+    x_values = x_values;
+  })

@@ -1,6 +1,7 @@
 -- What a floor of type 1 holds (Vorbis I, section 7.2.2).
 use Rattle.std.specs.Prelude.{◌≡◌, ◌≢◌, ℕ, ◌+◌, ◌^◌, ◌<◌, ◌≤◌, List, [], ◌∷◌, length, Option, IfSome, is_some, Bool, true, not, ◌&&◌, ◌==◌, nat_lt, max, sum_by, slice_get, slice_index}
 use Rattle.std.specs.List.{All, list_any}
+use Rattle.model_setup.specs.declared.floor.TheConstants.{MOST_POINTS}
 use Rattle.std.specs.Option.{option_map_or}
 
 -- a class of partitions: how many values a partition has, two to how many there are of subclasses,
@@ -12,8 +13,8 @@ pub record FloorClass : Type 0 where
   pub master : Option ℕ
   pub books : List (Option ℕ)
 
--- a floor: the class of each partition, the classes, the multiplier of its values,
--- and the line at which each point stands (the list of X values)
+-- a floor: the class of each partition, the classes, the multiplier of its values, and the
+-- bin of the spectrum at which each point stands (the list of X values)
 pub record FloorSetup : Type 0 where
   pub partitions : List ℕ
   pub classes : List FloorClass
@@ -27,7 +28,8 @@ class_count (class ∷ partitions) = max (class + 1) (class_count partitions)
 
 -- how many values a partition of a class has
 abbrev pub dimensions_of : List FloorClass → ℕ → ℕ
-dimensions_of classes class = option_map_or (λ (c : FloorClass). c.dimensions) (slice_get classes class) 0
+dimensions_of classes class =
+    option_map_or (λ (c : FloorClass). c.dimensions) (slice_get classes class) 0
 
 -- how many values all partitions have together
 abbrev pub value_count : List FloorClass → List ℕ → ℕ
@@ -38,14 +40,17 @@ abbrev pub is_distinct : List ℕ → Bool
 is_distinct [] = true
 is_distinct (x ∷ xs) = not (list_any (λ y. y == x) xs) && is_distinct xs
 
--- where the points of a floor stand: the first at line 0, the second behind all others, and no two at one line
+-- where the points of a floor stand: the first at bin 0, the second behind all others, and no two
+-- at one bin
 pub record ArePoints (x_values : List ℕ) : Type 0 where
   pub two : 2 ≤ length x_values
-  pub few : length x_values ≤ 65
+  pub few : length x_values ≤ MOST_POINTS
   pub first : slice_index x_values 0 ≡ 0
-  pub second : (i : ℕ) → i < length x_values → i ≢ 1 → slice_index x_values i < slice_index x_values 1
+  pub second : (i : ℕ) → i < length x_values → i ≢ 1
+      → slice_index x_values i < slice_index x_values 1
   pub within : slice_index x_values 1 < 2 ^ 16
-  pub apart : (i j : ℕ) → i < length x_values → j < length x_values → slice_index x_values i ≡ slice_index x_values j → i ≡ j
+  pub apart : (i j : ℕ) → i < length x_values → j < length x_values
+      → slice_index x_values i ≡ slice_index x_values j → i ≡ j
 
 -- a class whose parts fit one another
 pub record IsFloorClass (class : FloorClass) : Type 0 where

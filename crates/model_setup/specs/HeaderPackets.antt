@@ -2,7 +2,7 @@
 -- (Vorbis I, sections 4.2.1, 4.2.2 and 5.2.1).
 use Rattle.std.specs.Prelude.{◌≡◌, ℕ, ◌^◌, ◌≤◌, ◌<◌, List, [], ◌∷◌, length, Result, Ok, Err, Bool, ◌&&◌, ◌==◌, nat_lt, nat_le, codes}
 use Rattle.model_bits.specs.Bits.{bits_of}
-use Rattle.model_bits.specs.Reading.{Reading, ◌>>=◌, ◌>>◌, give, require, bits, times, relabel, value_of}
+use Rattle.model_bits.specs.Reading.{Reading, ◌>>=◌, ◌>>◌, give, require, bits, times, relabel, without_rest}
 use Rattle.model_setup.specs.declared.head.IdentFields.{IdentFields}
 use Rattle.model_setup.specs.declared.head.StartCause.{StartCause}
 use Rattle.model_setup.specs.declared.head.StartCause.TheVariants as starts
@@ -73,7 +73,8 @@ bitrates_at = do
   minimum ← ident_field 32
   give 0
 
--- whether blocks of two to these powers may be the short and the long ones: 64 to 8192, in this order
+-- whether blocks of two to these powers may be the short and the long ones: 64 to 8192, in this
+-- order
 abbrev pub may_be_blocks : ℕ → ℕ → Bool
 may_be_blocks short long = nat_le 6 short && nat_le short long && nat_le long 13
 
@@ -102,7 +103,7 @@ ident_at = do
 
 -- the fields of an identification packet, or the first cause; what follows it is ignored
 abbrev pub ident_of : List ℕ → Result IdentFields IdentCause
-ident_of bytes = value_of (ident_at (bits_of bytes))
+ident_of bytes = without_rest (ident_at (bits_of bytes))
 
 -- a size that a block may have
 pub record IsBlockSize (size : ℕ) : Type 0 where
@@ -152,4 +153,4 @@ counted (Err cause) = Err cause
 
 -- how many texts a comment packet has, or the first cause; what follows it is ignored
 abbrev pub comment_of : List ℕ → Result ℕ CommentCause
-comment_of bytes = counted (value_of (comment_at (bits_of bytes)))
+comment_of bytes = counted (without_rest (comment_at (bits_of bytes)))

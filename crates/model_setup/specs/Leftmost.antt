@@ -12,27 +12,50 @@ use Rattle.model_setup.specs.declared.head.CommentCause.TheVariants as comments
 -- ---- the identification packet
 
 abbrev pub version_field : Field IdentCause
-version_field = record { place = 56; width = 32; right = λ version. version == 0; cause = idents.Version }
+version_field = record {
+  place = 56;
+  width = 32;
+  right = λ version. version == 0;
+  cause = idents.Version;
+}
 
 abbrev pub channels_field : Field IdentCause
-channels_field = record { place = 88; width = 8; right = λ channels. nat_lt 0 channels; cause = idents.Channels }
+channels_field = record {
+  place = 88;
+  width = 8;
+  right = λ channels. nat_lt 0 channels;
+  cause = idents.Channels;
+}
 
 abbrev pub rate_field : Field IdentCause
 rate_field = record { place = 96; width = 32; right = λ rate. nat_lt 0 rate; cause = idents.Rate }
 
 -- the three bitrates
 abbrev pub bitrate_fields : List (Field IdentCause)
-bitrate_fields = any_number idents.End 128 32 ∷ any_number idents.End 160 32 ∷ any_number idents.End 192 32 ∷ []
+bitrate_fields = any_number idents.End 128 32 ∷ any_number idents.End 160 32
+    ∷ any_number idents.End 192 32 ∷ []
 
--- the exponents of the sizes of the blocks, which share a byte: the short ones' are its lower four bits
+-- the exponents of the sizes of the blocks, which share a byte: the short ones' are its lower four
+-- bits
 abbrev pub blocks_field : Field IdentCause
-blocks_field = record { place = 224; width = 8; right = λ both. may_be_blocks (both % 16) (both / 16); cause = idents.Blocks }
+blocks_field = record {
+  place = 224;
+  width = 8;
+  right = λ both. may_be_blocks (both % 16) (both / 16);
+  cause = idents.Blocks;
+}
 
 abbrev pub ident_framing_field : Field IdentCause
-ident_framing_field = record { place = 232; width = 1; right = λ flag. flag == 1; cause = idents.Framing }
+ident_framing_field = record {
+  place = 232;
+  width = 1;
+  right = λ flag. flag == 1;
+  cause = idents.Framing;
+}
 
 abbrev pub ident_fields : List (Field IdentCause)
-ident_fields = byte_fields idents.Kind 0 (1 ∷ codes "vorbis") ++ version_field ∷ channels_field ∷ rate_field ∷ bitrate_fields ++ blocks_field ∷ ident_framing_field ∷ []
+ident_fields = byte_fields idents.Kind 0 (1 ∷ codes "vorbis") ++ version_field ∷ channels_field
+    ∷ rate_field ∷ bitrate_fields ++ blocks_field ∷ ident_framing_field ∷ []
 
 -- A packet is an identification packet where all of its fields are right; else the cause is that
 -- of the leftmost that isn't.
@@ -55,30 +78,37 @@ abbrev pub text_end : List ℕ → ℕ → ℕ
 text_end bytes place = place + 32 + 8 * count_at bytes place
 
 abbrev pub text_fields : List ℕ → ℕ → List (Field CommentCause)
-text_fields bytes place = any_number comments.End place 32 ∷ any_number comments.End (place + 32) (8 * count_at bytes place) ∷ []
+text_fields bytes place =
+    any_number comments.End place 32
+    ∷ any_number comments.End (place + 32) (8 * count_at bytes place) ∷ []
 
 -- the fields of so many texts in a row, and where they end
 abbrev pub texts_fields : List ℕ → ℕ → ℕ → List (Field CommentCause)
 texts_fields bytes place zero = []
-texts_fields bytes place (suc count) = text_fields bytes place ++ texts_fields bytes (text_end bytes place) count
+texts_fields bytes place (suc count) =
+    text_fields bytes place ++ texts_fields bytes (text_end bytes place) count
 
 abbrev pub texts_end : List ℕ → ℕ → ℕ → ℕ
 texts_end bytes place zero = place
 texts_end bytes place (suc count) = texts_end bytes (text_end bytes place) count
 
 abbrev pub comment_framing_field : ℕ → Field CommentCause
-comment_framing_field place = record { place = place; width = 1; right = λ flag. flag == 1; cause = comments.Framing }
+comment_framing_field place =
+    record { place = place; width = 1; right = λ flag. flag == 1; cause = comments.Framing }
 
 -- the number of the texts behind the vendor's, the texts, and the framing bit
 abbrev pub list_fields : List ℕ → ℕ → List (Field CommentCause)
 list_fields bytes place =
     let count = count_at bytes place in
-    any_number comments.End place 32 ∷ texts_fields bytes (place + 32) count ++ comment_framing_field (texts_end bytes (place + 32) count) ∷ []
+    any_number comments.End place 32 ∷ texts_fields bytes (place + 32) count
+    ++ comment_framing_field (texts_end bytes (place + 32) count) ∷ []
 
 abbrev pub comment_fields : List ℕ → List (Field CommentCause)
-comment_fields bytes = byte_fields comments.Kind 0 (3 ∷ codes "vorbis") ++ text_fields bytes 56 ++ list_fields bytes (text_end bytes 56)
+comment_fields bytes = byte_fields comments.Kind 0 (3 ∷ codes "vorbis") ++ text_fields bytes 56
+    ++ list_fields bytes (text_end bytes 56)
 
 -- A packet is a comment packet where all of its fields are right; else the cause is that of the
 -- leftmost that isn't.
 abbrev pub CommentNamesLeftmost : Type 0
-CommentNamesLeftmost = (bytes : List ℕ) → GoesBy comments.End bytes (comment_fields bytes) (comment_of bytes)
+CommentNamesLeftmost = (bytes : List ℕ)
+    → GoesBy comments.End bytes (comment_fields bytes) (comment_of bytes)

@@ -13,3 +13,6 @@ pub mod FloorCurve
 pub mod ResidueSetup
 pub mod ResidueReading
 pub mod ResidueDecoding
+pub mod SetupCauses
+pub mod SetupPacket
+pub mod AudioHead

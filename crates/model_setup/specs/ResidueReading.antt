@@ -1,9 +1,8 @@
--- A residue as its bits stand in a setup packet (Vorbis I, section 8.6.1), with the first cause of a
--- refusal in reading order.
-use Rattle.std.specs.Prelude.{◌≡◌, ℕ, ◌+◌, ◌*◌, ◌/◌, ◌%◌, ◌^◌, List, Option, Some, None, Result, Ok, Err, Bool, false, ◌==◌, if◌then◌else◌, slice_get}
+-- A residue as its bits stand in a setup packet (Vorbis I, section 8.6.1), with the first cause of
+-- a refusal in reading order.
+use Rattle.std.specs.Prelude.{◌≡◌, ℕ, ◌+◌, ◌*◌, ◌/◌, ◌%◌, ◌^◌, List, Option, Some, None, Bool, false, ◌==◌, if◌then◌else◌, slice_get}
 use Rattle.std.specs.List.{range_with_len}
 use Rattle.std.specs.Option.{option_map_or}
-use Rattle.model_bits.specs.Bits.{BitReader}
 use Rattle.model_bits.specs.Reading.{Reading, ◌>>=◌, ◌>>◌, give, refuse, require, bits, times, each}
 use Rattle.model_setup.specs.declared.residue.ResidueKind.{ResidueKind}
 use Rattle.model_setup.specs.declared.residue.ResidueKind.TheVariants.{Spread, InRow, Interleaved}
@@ -11,16 +10,6 @@ use Rattle.model_setup.specs.declared.residue.ResidueFault.{ResidueFault}
 use Rattle.model_setup.specs.declared.residue.ResidueFault.TheVariants as causes
 use Rattle.model_setup.specs.Codebook.{Codebook}
 use Rattle.model_setup.specs.ResidueSetup.{ResidueSetup, names_classes, has_values}
-
--- want of memory is no cause of the packet's, and says nothing of it
-abbrev pub ResidueFails : {A : Type 0} → ResidueFault → Result (A × List Bool) ResidueFault → Type 0
-ResidueFails causes.Memory reading = Unit {0}
-ResidueFails e reading = reading ≡ Err e
-
--- what was read is what the bits say: the value and the bits after it, or the first cause
-abbrev pub ReadsResidueAs : {X A : Type 0} → (X → A) → Result X ResidueFault → BitReader → Result (A × List Bool) ResidueFault → Type 0
-ReadsResidueAs view (Ok x) new reading = reading ≡ Ok (view x, new.left)
-ReadsResidueAs view (Err e) new reading = ResidueFails e reading
 
 abbrev pub residue_field : ℕ → Reading ResidueFault ℕ
 residue_field count = bits causes.End count
@@ -44,9 +33,10 @@ serving_book_at test books = do
   require (serves test books number) causes.Book
   give number
 
--- in which of eight passes a class has a book: bit k of this number stands for pass k
-unfoldable pub passes_at : Reading ResidueFault ℕ
-passes_at = do
+-- in which of eight passes a class has a book (residue_cascade): bit k of this number stands for
+-- pass k
+unfoldable pub pass_flags_at : Reading ResidueFault ℕ
+pass_flags_at = do
   low ← residue_field 3
   flag ← residue_field 1
   high ← (if flag == 1 then residue_field 5 else give 0)
@@ -54,21 +44,21 @@ passes_at = do
 
 -- a class's book in a pass, if it has one there
 unfoldable pub pass_book_at : List Codebook → ℕ → ℕ → Reading ResidueFault (Option ℕ)
-pass_book_at books passes pass =
-    if passes / 2 ^ pass % 2 == 1
+pass_book_at books flags pass =
+    if flags / 2 ^ pass % 2 == 1
     then (do
       number ← serving_book_at has_values books
       give (Some number))
     else give None
 
 unfoldable pub cascade_at : List Codebook → ℕ → Reading ResidueFault (List (Option ℕ))
-cascade_at books passes = each (pass_book_at books passes) (range_with_len 0 8)
+cascade_at books flags = each (pass_book_at books flags) (range_with_len 0 8)
 
--- of so many classes first all passes, and then all books
+-- of so many classes first the flags of all, and then the books of all
 unfoldable pub cascades_at : List Codebook → ℕ → Reading ResidueFault (List (List (Option ℕ)))
 cascades_at books classes = do
-  passes ← times classes passes_at
-  each (cascade_at books) passes
+  flags ← times classes pass_flags_at
+  each (cascade_at books) flags
 
 -- a residue of a type, in a setup of these books
 unfoldable pub residue_at : ℕ → List Codebook → Reading ResidueFault ResidueSetup
@@ -80,4 +70,11 @@ residue_at number books = do
   classes ← residue_field 6
   class_book ← serving_book_at (names_classes (classes + 1)) books
   cascades ← cascades_at books (classes + 1)
-  give (record { kind = kind; begin = begin; end = end; partition_size = size + 1; class_book = class_book; cascades = cascades })
+  give (record {
+    kind = kind;
+    begin = begin;
+    end = end;
+    partition_size = size + 1;
+    class_book = class_book;
+    cascades = cascades;
+  })

@@ -4,9 +4,10 @@ use Rattle.std.specs.List.{All}
 use Rattle.model_setup.specs.declared.residue.ResidueKind.{ResidueKind}
 use Rattle.model_setup.specs.Codebook.{Codebook}
 
--- a residue: what part of each vector it covers, in partitions of so many values, the book of the
--- words that name the classes of partitions, and of each class the book of each of eight passes,
--- where it has one
+-- a residue: what part of each vector it covers (residue_begin to residue_end), in partitions of so
+-- many values (residue_partition_size), the book of the words that name the classes of partitions
+-- (residue_classbook), and of each class the book of each of eight passes, where it has one
+-- (residue_books)
 pub record ResidueSetup : Type 0 where
   pub kind : ResidueKind
   pub begin : ℕ
@@ -15,9 +16,11 @@ pub record ResidueSetup : Type 0 where
   pub class_book : ℕ
   pub cascades : List (List (Option ℕ))
 
--- a book whose entries name the classes of as many partitions as it has dimensions, of so many classes
+-- a book whose entries name the classes of as many partitions as it has dimensions, of so many
+-- classes
 abbrev pub names_classes : ℕ → Codebook → Bool
-names_classes classes book = nat_lt 0 book.dimensions && nat_le (classes ^ book.dimensions) (length book.lengths)
+names_classes classes book =
+    nat_lt 0 book.dimensions && nat_le (classes ^ book.dimensions) (length book.lengths)
 
 -- a book whose entries have values
 abbrev pub has_values : Codebook → Bool
@@ -25,7 +28,8 @@ has_values book = is_some book.lookup && nat_lt 0 book.dimensions
 
 -- the book of a number is there, and serves
 abbrev pub Serves : (Codebook → Bool) → List Codebook → ℕ → Type 0
-Serves test books number = IfSome (slice_get books number) (λ book. test book ≡ true) × (number < length books)
+Serves test books number =
+    IfSome (slice_get books number) (λ book. test book ≡ true) × (number < length books)
 
 -- a residue whose parts fit one another and the books of its setup
 pub record FitsBooks (books : List Codebook) (residue : ResidueSetup) : Type 0 where

@@ -4,6 +4,13 @@ ghost use Rattle.model_setup.specs.declared.book.BookFault.TheVariants.{Memory};
 use std::alloc::{AllocError, AllocFailed};
 use thiserror::Error;
 
+/// More entries than any codebook has: their number is a field of 24 bits (Vorbis I, section
+/// 3.2.1).
+pub const ENTRY_LIMIT: u32 = 1 << 24;
+
+/// More dimensions than any codebook has: their number is a field of 16 bits.
+pub const DIMENSION_LIMIT: u32 = 1 << 16;
+
 /// How many entries and multiplicands the codebooks of one setup may still hold.
 #[derive(Clone, Copy, Debug, PartialEq, Eq)]
 pub struct Budget {
@@ -24,7 +31,8 @@ pub struct Word {
 /// How a codebook's lookup makes the values of an entry's vector (Vorbis I, section 3.2.1).
 #[derive(Clone, Copy, Debug, PartialEq, Eq)]
 pub enum LookupKind {
-    /// Type 1: all entries share the multiplicands, and the digits of an entry's number name its own.
+    /// Type 1: all entries share the multiplicands, and the digits of an entry's number name its
+    /// own.
     Lattice,
     /// Type 2: each entry has multiplicands of its own.
     Tessellation,

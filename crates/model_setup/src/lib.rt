@@ -9,16 +9,18 @@ mod codeword_laws;
 mod floor;
 mod head;
 mod residue;
+mod setup;
 
-pub use book::{BookFault, Budget, LookupKind, Word};
+pub use book::{BookFault, Budget, DIMENSION_LIMIT, ENTRY_LIMIT, LookupKind, Word};
 pub use codeword_laws::{codewords_are_apart, codewords_are_intervals, root_is_greatest};
-pub use floor::{Final, FloorFault};
+pub use floor::{Final, FloorFault, MOST_POINTS};
 pub use head::{CommentCause, IdentCause, IdentFields, StartCause};
 pub use residue::{ResidueFault, ResidueKind};
+pub use setup::{BOOK_BUDGET, PacketHead, SetupCause, SetupFault};
 
 /// A law: what makes an identification packet, or refuses it, goes by its fields at their places.
-/// All are right, or the cause is that of the leftmost that is missing or wrong
-/// (Vorbis I, section 4.2.2).
+/// All are right, or the cause is that of the leftmost that is missing or wrong (Vorbis I, section
+/// 4.2.2).
 pub fn ident_names_leftmost()
     ensures { IdentNamesLeftmost }
 {}

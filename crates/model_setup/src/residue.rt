@@ -22,7 +22,7 @@ pub enum ResidueFault {
     Kind,
     #[error("the packet ends within a residue")]
     End,
-    #[error("a residue names a codebook that the setup doesn't have, or that doesn't serve there")]
+    #[error("a residue names a codebook that is not there, or that does not serve there")]
     Book,
     #[error("out of memory")]
     Memory,

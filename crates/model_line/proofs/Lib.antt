@@ -1,0 +1,11 @@
+pub mod Counts
+pub mod Edges
+pub mod Levels
+pub mod Spans
+pub mod BlockLines
+pub mod LineLaws
+pub mod SpanLaws
+pub mod OneIndex
+pub mod SpanLinks
+pub mod IndexLaws
+pub mod Examples

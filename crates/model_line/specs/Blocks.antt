@@ -1,0 +1,83 @@
+-- Decoded blocks, and the overlap of neighbouring ones (Vorbis I, section 4.3.8).
+use Rattle.std.specs.Prelude.{◌≡◌, ℕ, ◌+◌, ◌-◌, ◌*◌, ◌/◌, ◌+ℤ◌, ℤ, pos, nat_lt, if◌then◌else◌, List, [], ◌∷◌, length, map, take, drop, slice_index_or}
+use Rattle.std.specs.List.{flat_map, range_with_len}
+use Rattle.model_line.specs.Decode.{Kind, missing, skipped, decoded, LinkEntry}
+use Rattle.model_line.specs.Origins.{overlap_len}
+
+-- a block, or half of one: the values of each channel
+abbrev pub Values : Type 0
+Values = List (List ℤ)
+
+-- how many values a channel has
+abbrev pub len_of : Values → ℕ
+len_of values = length (slice_index_or values 0 [])
+
+-- value j of a channel; after the last there are zeros
+abbrev pub value : Values → ℕ → ℕ → ℤ
+value values channel j = slice_index_or (slice_index_or values channel []) j (pos 0)
+
+-- the value of a channel that stands at j where k zeros are put before the first
+abbrev pub value_behind_zeros : Values → ℕ → ℕ → ℕ → ℤ
+value_behind_zeros values channel j k =
+    if nat_lt j k then pos 0 else value values channel (j - k)
+
+-- ---- whole blocks
+
+-- Frame j between two blocks. The first counts from its middle on; the second is moved so that the
+-- centres of the two slopes meet, which are three quarters of the first and one quarter of the
+-- second from where each begins.
+abbrev pub frame_between : Values → Values → ℕ → List ℤ
+frame_between first second j =
+    let a = len_of first in
+    let b = len_of second in
+    map (λ channel. value first channel (a / 2 + j)
+    +ℤ value_behind_zeros second channel (j + b / 4) (a / 4))
+    (range_with_len 0 (length second))
+
+-- the frames between two blocks: from the middle of the first to the middle of the second
+unfoldable pub frames_between : Values → Values → List (List ℤ)
+frames_between first second =
+    map (frame_between first second) (range_with_len 0 (overlap_len (len_of first) (len_of second)))
+
+-- ---- halves
+
+unfoldable pub left_half : Values → Values
+left_half block = map (take (len_of block / 2)) block
+
+unfoldable pub right_half : Values → Values
+right_half block = map (drop (len_of block / 2)) block
+
+-- frame j between a right half and a left half
+abbrev pub overlap_frame : Values → Values → ℕ → List ℤ
+overlap_frame right left j =
+    let a = 2 * len_of right in
+    let b = 2 * len_of left in
+    map (λ channel. value right channel j
+    +ℤ value_behind_zeros left channel (j + b / 4) (a / 4))
+    (range_with_len 0 (length left))
+
+-- the frames between a right half and a left half
+unfoldable pub overlap : Values → Values → List (List ℤ)
+overlap right left = map (overlap_frame right left)
+    (range_with_len 0 (overlap_len (2 * len_of right) (2 * len_of left)))
+
+-- a block has two halves of one size
+abbrev pub IsEven : Values → Type 0
+IsEven block = len_of block ≡ 2 * (len_of block / 2)
+
+-- ---- the blocks of a film, by their numbers
+
+abbrev pub blocks_of : {B : Type 0} → Kind B → List B
+blocks_of (missing kind) = []
+blocks_of skipped = []
+blocks_of (decoded b) = b ∷ []
+
+unfoldable pub link_blocks : {B : Type 0} → List (LinkEntry B) → List B
+link_blocks {B} es = flat_map (λ (e : LinkEntry B). blocks_of e.kind) es
+
+unfoldable pub all_blocks : {B : Type 0} → List (List (LinkEntry B)) → List B
+all_blocks links = flat_map link_blocks links
+
+-- the block of this number
+abbrev pub block_at : List (List (LinkEntry Values)) → ℕ → Values
+block_at links k = slice_index_or (all_blocks links) k []

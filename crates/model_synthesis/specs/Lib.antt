@@ -1,0 +1,4 @@
+pub mod Tables
+pub mod ConstantsFile
+pub mod ConstantsTexts
+pub mod CosineLaws
