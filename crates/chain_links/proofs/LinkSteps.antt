@@ -4,30 +4,30 @@ use Rattle.std.specs.Prelude.{Result}
 use Rattle.std.proofs.lemmas.Bool.{cases_Bool, lt-ltb}
 use Rattle.std.proofs.lemmas.List.{at_drop_more, drop_all, drop-drop, append-nil, length-drop}
 use Rattle.model_ogg.specs.declared.page.PageRef.{PageRef}
+use Rattle.model_ogg.specs.declared.link.TheConstants.{MOST_LINKS}
 use Rattle.model_ogg.specs.declared.link.LinkPages.{LinkPages}
+use Rattle.model_ogg.specs.declared.link.LinkFault.{LinkFault}
+use Rattle.model_ogg.specs.declared.link.LinkFault.TheVariants.{NoVorbis}
 use Rattle.model_ogg.specs.Streams.{is_first}
-use Rattle.model_ogg.specs.Links.{begins_link, up_to_link, links_after, LinkRefusal, no_link, no_vorbis, too_many_links, most_links, played, numbered, with_link, all_numbered}
+use Rattle.model_ogg.specs.Links.{begins_link, up_to_link, links_after, played, numbered, with_link, all_numbered}
 use Rattle.model_ogg.proofs.LinkLaws.{up_to_link-front, up_to_link-within, up_to_link-behind, links_after-behind}
-use Rattle.chain_links.specs.declared.fault.LinkFault.{LinkFault}
-use Rattle.chain_links.specs.declared.fault.LinkFault.TheVariants.{NoLink, NoVorbis, TooManyLinks, Memory}
-use Rattle.chain_links.specs.Refusals.{Tells}
 
--- ---- the place of the next link
+-- ---- how many pages stand before the next link
 
-pub place-found : (b : Bool) (pages : List PageRef) (i : ℕ) (d : PageRef) → i < length pages → begins_link b (get_or pages i d) ≡ true → length (up_to_link b (drop i pages)) ≡ 0
+pub next-found : (b : Bool) (pages : List PageRef) (i : ℕ) (d : PageRef) → i < length pages → begins_link b (get_or pages i d) ≡ true → length (up_to_link b (drop i pages)) ≡ 0
 unfolding up_to_link
-place-found b pages i d lt e = let more = at_drop_more (λ (ps : List PageRef). length (up_to_link b ps)) pages i d lt in rw e at more
+next-found b pages i d lt e = let more = at_drop_more (λ (ps : List PageRef). length (up_to_link b ps)) pages i d lt in rw e at more
 
-pub place-goes_on : (b : Bool) (pages : List PageRef) (i : ℕ) (d : PageRef) → i < length pages → begins_link b (get_or pages i d) ≡ false
+pub next-goes_on : (b : Bool) (pages : List PageRef) (i : ℕ) (d : PageRef) → i < length pages → begins_link b (get_or pages i d) ≡ false
     → length (up_to_link b (drop i pages)) ≡ suc (length (up_to_link (is_first (get_or pages i d)) (drop (i + 1) pages)))
 unfolding up_to_link
-place-goes_on b pages i d lt e = let more = at_drop_more (λ (ps : List PageRef). length (up_to_link b ps)) pages i d lt in rw e at more
+next-goes_on b pages i d lt e = let more = at_drop_more (λ (ps : List PageRef). length (up_to_link b ps)) pages i d lt in rw e at more
 
-pub place-none : (b : Bool) (pages : List PageRef) (i : ℕ) → length pages ≤ i → length (up_to_link b (drop i pages)) ≡ 0
+pub next-none : (b : Bool) (pages : List PageRef) (i : ℕ) → length pages ≤ i → length (up_to_link b (drop i pages)) ≡ 0
 unfolding up_to_link
-place-none b pages i le = rw (drop_all i pages le) refl
+next-none b pages i le = rw (drop_all i pages le) refl
 
-pub ruleset place_laws = (place-found, place-goes_on, place-none)
+pub ruleset next_laws = (next-found, next-goes_on, next-none)
 
 -- ---- a link at the front
 
@@ -61,19 +61,19 @@ link-at pages first lt e =
 
 -- ---- links before others
 
-unfoldable pub after_found : List LinkPages → Result (List LinkPages) LinkRefusal → Result (List LinkPages) LinkRefusal
+unfoldable pub after_found : List LinkPages → Result (List LinkPages) LinkFault → Result (List LinkPages) LinkFault
 after_found found (Ok links) = Ok (found ++ links)
-after_found found (Err refusal) = Err refusal
+after_found found (Err fault) = Err fault
 
-pub after_none : (r : Result (List LinkPages) LinkRefusal) → after_found [] r ≡ r
+pub after_none : (r : Result (List LinkPages) LinkFault) → after_found [] r ≡ r
 unfolding after_found
 after_none (Ok links) = refl
-after_none (Err refusal) = refl
+after_none (Err fault) = refl
 
-after_more : (found : List LinkPages) (x : LinkPages) (r : Result (List LinkPages) LinkRefusal) → after_found found (with_link (Ok x) r) ≡ after_found (found ++ x ∷ []) r
+after_more : (found : List LinkPages) (x : LinkPages) (r : Result (List LinkPages) LinkFault) → after_found found (with_link (Ok x) r) ≡ after_found (found ++ x ∷ []) r
 unfolding after_found
 after_more found x (Ok links) = ap Ok (sym (append_assoc found (x ∷ []) links))
-after_more found x (Err refusal) = refl
+after_more found x (Err fault) = refl
 
 -- the loop begins
 pub links_begin : (bytes : List ℕ) (pages : List PageRef) (found : List LinkPages) (first : ℕ) → found ≡ [] → first ≡ length (up_to_link false pages)
@@ -81,7 +81,7 @@ pub links_begin : (bytes : List ℕ) (pages : List PageRef) (found : List LinkPa
 links_begin bytes pages found first found-is first-is = rw (found-is, first-is, ← links_after-behind false pages) (after_none _)
 
 -- one link more
-pub link_found : (bytes : List ℕ) (pages : List PageRef) (number first end : ℕ) (found now : List LinkPages) (x : LinkPages) (total : Result (List LinkPages) LinkRefusal) → first < length pages
+pub link_found : (bytes : List ℕ) (pages : List PageRef) (number first end : ℕ) (found now : List LinkPages) (x : LinkPages) (total : Result (List LinkPages) LinkFault) → first < length pages
     → number ≡ length found
     → end ≡ first + length (up_to_link true (drop first pages))
     → now ≡ found ++ x ∷ []
@@ -103,35 +103,20 @@ next_begins pages first end end-is =
     rw end-is (ap (up_to_link false) (sym (drop-drop (length link) first pages)) ∙ up_to_link-behind true (drop first pages))
 
 -- a link that is refused
-link_refused : (bytes : List ℕ) (pages : List PageRef) (number first : ℕ) (found : List LinkPages) (refusal : LinkRefusal) (total : Result (List LinkPages) LinkRefusal) → first < length pages
+pub link_refused : (bytes : List ℕ) (pages : List PageRef) (number first : ℕ) (found : List LinkPages) (fault : LinkFault) (total : Result (List LinkPages) LinkFault) → first < length pages
     → number ≡ length found
     → up_to_link false (drop first pages) ≡ []
-    → numbered bytes number first (up_to_link true (drop first pages)) ≡ Err refusal
+    → numbered bytes number first (up_to_link true (drop first pages)) ≡ Err fault
     → after_found found (all_numbered bytes (length found) first (links_after false (drop first pages))) ≡ total
-    → total ≡ Err refusal
+    → total ≡ Err fault
 unfolding all_numbered after_found
-link_refused bytes pages number first found refusal total lt number-is begins is h =
+link_refused bytes pages number first found fault total lt number-is begins is h =
     let one = rw number-is at is in
     let here = rw (link-at pages first lt begins) at h in
     sym (rw one at here)
 
-tells_of : {A B : Type 0} (fault : LinkFault) (one : Result A LinkRefusal) (total : Result B LinkRefusal) → ((refusal : LinkRefusal) → one ≡ Err refusal → total ≡ Err refusal) → Tells fault one → Tells fault total
-tells_of NoLink one total f h = f no_link h
-tells_of (NoVorbis link) one total f h = f (no_vorbis link) h
-tells_of TooManyLinks one total f h = f too_many_links h
-tells_of Memory one total f h = tt
-
-pub link_refuses : (bytes : List ℕ) (pages : List PageRef) (number first : ℕ) (found : List LinkPages) (fault : LinkFault) (total : Result (List LinkPages) LinkRefusal) → first < length pages
-    → number ≡ length found
-    → up_to_link false (drop first pages) ≡ []
-    → Tells fault (numbered bytes number first (up_to_link true (drop first pages)))
-    → after_found found (all_numbered bytes (length found) first (links_after false (drop first pages))) ≡ total
-    → Tells fault total
-link_refuses bytes pages number first found fault total lt number-is begins tells h =
-    tells_of fault (numbered bytes number first (up_to_link true (drop first pages))) total (λ refusal is. link_refused bytes pages number first found refusal total lt number-is begins is h) tells
-
 -- all links are found
-pub links_end : (bytes : List ℕ) (pages : List PageRef) (first : ℕ) (found : List LinkPages) (total : Result (List LinkPages) LinkRefusal) → length pages ≤ first
+pub links_end : (bytes : List ℕ) (pages : List PageRef) (first : ℕ) (found : List LinkPages) (total : Result (List LinkPages) LinkFault) → length pages ≤ first
     → after_found found (all_numbered bytes (length found) first (links_after false (drop first pages))) ≡ total
     → total ≡ Ok found
 unfolding all_numbered after_found links_after
@@ -147,10 +132,10 @@ link-front pages rest first n rest-is n-is = rw (n-is, rest-is) (up_to_link-fron
 pub link-within : (pages : List PageRef) (first : ℕ) → first < length pages → first + length (up_to_link true (drop first pages)) ≤ length pages
 link-within pages first lt = omega (arith, up_to_link-within true (drop first pages), length-drop first pages)
 
-pub link_told : (bytes : List ℕ) (pages front : List PageRef) (number first serial : ℕ) → front ≡ up_to_link true (drop first pages) → number < most_links → played bytes front ≡ Some serial
+pub link_with : (bytes : List ℕ) (pages front : List PageRef) (number first serial : ℕ) → front ≡ up_to_link true (drop first pages) → number < MOST_LINKS → played bytes front ≡ Some serial
     → numbered bytes number first (up_to_link true (drop first pages)) ≡ Ok (record { first = first; end = first + length front; serial = serial })
-link_told bytes pages front number first serial front-is few is = rw (← front-is, lt-ltb number most_links few, is) refl
+link_with bytes pages front number first serial front-is few is = rw (← front-is, lt-ltb number MOST_LINKS few, is) refl
 
-pub link_without : (bytes : List ℕ) (pages front : List PageRef) (number first : ℕ) → front ≡ up_to_link true (drop first pages) → number < most_links → played bytes front ≡ None
-    → numbered bytes number first (up_to_link true (drop first pages)) ≡ Err (no_vorbis number)
-link_without bytes pages front number first front-is few is = rw (← front-is, lt-ltb number most_links few, is) refl
+pub link_without : (bytes : List ℕ) (pages front : List PageRef) (number first : ℕ) → front ≡ up_to_link true (drop first pages) → number < MOST_LINKS → played bytes front ≡ None
+    → numbered bytes number first (up_to_link true (drop first pages)) ≡ Err (NoVorbis number)
+link_without bytes pages front number first front-is few is = rw (← front-is, lt-ltb number MOST_LINKS few, is) refl

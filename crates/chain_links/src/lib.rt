@@ -1,13 +1,12 @@
-//! Finds the links of a chained Ogg file, and of each link the Vorbis stream that is played (RFC 3533, section 4).
+//! Finds the links of a chained Ogg file, and of each link the Vorbis stream that is played (RFC
+//! 3533, section 4).
 #![tactic(auto)]
 
 mod chain;
-mod fault;
 mod vorbis;
 
-pub use chain::{MOST_LINKS, links};
-pub use fault::LinkFault;
-pub use model_ogg::{LinkPages, PageRef};
+pub use chain::{links, pages_in};
+pub use model_ogg::{LinkFault, LinkPages, MOST_LINKS, PageRef};
 pub use vorbis::begins_vorbis;
 
 #[cfg(test)]

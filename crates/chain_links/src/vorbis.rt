@@ -6,7 +6,7 @@ ghost use Rattle.model_ogg.specs.Links.{played};
 use model_ogg::PageRef;
 use ogg_pages::{body, laces};
 
-// How many bytes the first packet part of a page with these lacing values has.
+/// How many bytes the first packet part of a page with these lacing values has.
 #[tactic(auto, using(crate::proofs::PartSteps::part_laws))]
 fn first_part_len(laces: &[u8]) -> u64
     requires { length laces.now ≤ 255 }
@@ -23,7 +23,8 @@ fn first_part_len(laces: &[u8]) -> u64
     len
 }
 
-/// Whether the first packet part of a page begins as an identification header of Vorbis I does (section 4.2.2).
+/// Whether the first packet part of a page begins as an identification header of Vorbis I does
+/// (section 4.2.2).
 pub fn begins_vorbis(bytes: &[u8], page: &PageRef) -> bool
     requires { IsPageOf bytes.now page.now }
     ensures { result ≡ begins_vorbis bytes.now page.now }

@@ -1,8 +1,8 @@
 -- The pieces of a packet, joined one at a time.
 use Rattle.std.proofs.Common.{◌≡◌, ℕ, ◌+◌, ◌-◌, ◌<◌, ◌≤◌, List, [], ◌++◌, length, take, drop, get_or, sym, ap, ◌∙◌, append_assoc, arith}
 use Rattle.std.proofs.lemmas.List.{at_drop_more, drop_all, append-nil}
-use Rattle.model_ogg.specs.declared.pieces.Piece.{Piece}
-use Rattle.model_ogg.specs.Pieces.{bytes_of, joined}
+use Rattle.ogg_packets.specs.declared.pieces.Piece.{Piece}
+use Rattle.ogg_packets.specs.Pieces.{bytes_of, joined}
 
 pub piece_joined : (bytes : List ℕ) (pieces : List Piece) (i : ℕ) (d : Piece) (before total : List ℕ) → i < length pieces → before ++ joined bytes (drop i pieces) ≡ total
     → (before ++ take ((get_or pieces i d).place + (get_or pieces i d).len - (get_or pieces i d).place) (drop (get_or pieces i d).place bytes)) ++ joined bytes (drop (i + 1) pieces) ≡ total

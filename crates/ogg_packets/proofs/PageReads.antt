@@ -4,12 +4,14 @@ use Rattle.std.specs.Prelude.{is_some, All}
 use Rattle.std.proofs.lemmas.Bool.{ne_eqb}
 use Rattle.std.proofs.lemmas.List.{drop-drop, map-append, append-nil, length-append, length-map}
 use Rattle.std.proofs.lemmas.List.Elements.{All-push}
+use Rattle.model_ogg.specs.declared.page.TheConstants.{HEADER_LEN}
 use Rattle.model_ogg.specs.declared.page.PageRef.{PageRef}
-use Rattle.model_ogg.specs.declared.pieces.Piece.{Piece}
-use Rattle.model_ogg.specs.declared.entry.Entry.{Entry}
-use Rattle.model_ogg.specs.declared.entry.Entry.TheVariants.{Lost}
+use Rattle.ogg_packets.specs.declared.pieces.Piece.{Piece}
+use Rattle.ogg_packets.specs.declared.entry.Entry.{Entry}
+use Rattle.ogg_packets.specs.declared.entry.Entry.TheVariants.{Lost}
 use Rattle.model_ogg.specs.Pages.{laces_of}
-use Rattle.model_ogg.specs.Entries.{StreamItem, lost, segments, segments_of, after_end, ended, left_pending, has_any, loses, forgets, has_orphan, mark_of, page_items, page_pending, kept_pending, kept_segments, item_of, items_of, pending_of, EntryLiesBefore, PendingLiesBefore, LieBefore}
+use Rattle.model_ogg.specs.Entries.{StreamItem, lost, segments, segments_of, after_end, packets_ended, left_pending, has_any, loses, forgets, has_orphan, mark_of, page_items, page_pending, kept_pending, kept_segments}
+use Rattle.ogg_packets.specs.Entries.{item_of, items_of, pending_of, EntryLiesBefore, PendingLiesBefore, LieBefore}
 
 has_any-segments : (laces body : List ℕ) → has_any (segments laces body) ≡ not (length laces == 0)
 unfolding segments
@@ -35,15 +37,15 @@ pub page_read : (bytes : List ℕ) (expected : Option ℕ) (pending kept : Optio
     → kept ≡ cond dropped None pending
     → orphan ≡ has_orphan p (is_some kept)
     → ((body : List ℕ) → cond orphan (after_end (segments laces body)) (segments laces body) ≡ segments (drop n laces) (drop (sum (take n laces)) body))
-    → place ≡ p.place + 27 + p.segments + sum (take n laces)
-    → (page_items expected (pending_of bytes pending) p (segments_of bytes p) ≡ items_of bytes (cond is_lost (Lost ∷ []) []) ++ ended (mark_of p) (pending_of bytes kept) (segments (drop n laces) (drop place bytes)))
+    → place ≡ p.place + HEADER_LEN + p.segments + sum (take n laces)
+    → (page_items expected (pending_of bytes pending) p (segments_of bytes p) ≡ items_of bytes (cond is_lost (Lost ∷ []) []) ++ packets_ended (mark_of p) (pending_of bytes kept) (segments (drop n laces) (drop place bytes)))
     × (page_pending expected (pending_of bytes pending) p (segments_of bytes p) ≡ left_pending (pending_of bytes kept) (segments (drop n laces) (drop place bytes)))
 unfolding page_items page_pending
 page_read bytes expected pending kept p laces n place is_lost dropped orphan none laces-is none-is lost-is dropped-is kept-is orphan-is behind place-is =
-    let body = drop (27 + p.segments) (drop p.place bytes) in
+    let body = drop (HEADER_LEN + p.segments) (drop p.place bytes) in
     let any : has_any (segments laces body) ≡ not none = has_any-segments laces body ∙ ap not (sym none-is) in
     let at : drop (sum (take n laces)) body ≡ drop place bytes =
-    drop-drop (sum (take n laces)) (27 + p.segments) (drop p.place bytes) ∙ drop-drop (27 + p.segments + sum (take n laces)) p.place bytes ∙ ap (λ k. drop k bytes) (omega (arith, place-is)) in
+    drop-drop (sum (take n laces)) (HEADER_LEN + p.segments) (drop p.place bytes) ∙ drop-drop (HEADER_LEN + p.segments + sum (take n laces)) p.place bytes ∙ ap (λ k. drop k bytes) (omega (arith, place-is)) in
     let kept-same : kept_pending expected (pending_of bytes pending) p (segments laces body) ≡ pending_of bytes kept =
     rw (any, ← dropped-is, kept-is) (sym (pending_of-kept bytes dropped pending)) in
     let rest-same : kept_segments (pending_of bytes kept) p (segments laces body) ≡ segments (drop n laces) (drop place bytes) =
@@ -84,7 +86,7 @@ pub loss_too_many : (bytes : List ℕ) (expected : Option ℕ) (pending : Option
     → limit < length (items_of bytes before ++ page_items expected (pending_of bytes pending) p (segments_of bytes p))
 unfolding page_items
 loss_too_many bytes expected pending p laces is_lost none before limit laces-is none-is lost-is many =
-    let body = drop (27 + p.segments) (drop p.place bytes) in
+    let body = drop (HEADER_LEN + p.segments) (drop p.place bytes) in
     let any : has_any (segments laces body) ≡ not none = has_any-segments laces body ∙ ap not (sym none-is) in
     let loss-same : cond (loses expected (is_some (pending_of bytes pending)) p (has_any (segments laces body))) (lost ∷ []) [] ≡ items_of bytes (cond is_lost (Lost ∷ []) []) =
     rw (is_some-pending_of bytes pending, any, ← lost-is) (sym (items_of-loss bytes is_lost)) in

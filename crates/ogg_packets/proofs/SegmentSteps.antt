@@ -5,12 +5,13 @@ use Rattle.std.specs.List.{list_any}
 use Rattle.std.proofs.lemmas.List.{at_drop_more, drop_all, drop-drop, append-nil, map-append, length-append, length-map}
 use Rattle.std.proofs.lemmas.Bool.{lt-ltb, le-ltb}
 use Rattle.std.proofs.lemmas.List.Elements.{All-push}
-use Rattle.model_ogg.specs.declared.pieces.Piece.{Piece}
-use Rattle.model_ogg.specs.declared.entry.Mark.{Mark}
-use Rattle.model_ogg.specs.declared.entry.Entry.{Entry}
-use Rattle.model_ogg.specs.declared.entry.Entry.TheVariants.{Packet}
-use Rattle.model_ogg.specs.Entries.{StreamItem, packet, ends, segments, with_segment, ended, one_ended, one_pending, left_pending, item_of, items_of, pending_of, EntryLiesBefore, LieBefore}
-use Rattle.model_ogg.specs.Pieces.{joined, AddsPiece, LiesBefore}
+use Rattle.ogg_packets.specs.declared.pieces.Piece.{Piece}
+use Rattle.model_ogg.specs.declared.page.Mark.{Mark}
+use Rattle.ogg_packets.specs.declared.entry.Entry.{Entry}
+use Rattle.ogg_packets.specs.declared.entry.Entry.TheVariants.{Packet}
+use Rattle.model_ogg.specs.Entries.{StreamItem, packet, ends, segments, with_segment, packets_ended, packet_ended, one_pending, left_pending}
+use Rattle.ogg_packets.specs.Entries.{item_of, items_of, pending_of, EntryLiesBefore, LieBefore}
+use Rattle.ogg_packets.specs.Pieces.{joined, AddsPiece, LiesBefore}
 
 pub segments-more : (laces : List ℕ) (i : ℕ) (body : List ℕ) → i < length laces
     → segments (drop i laces) body ≡ (get_or laces i 0, take (get_or laces i 0) body) ∷ segments (drop (i + 1) laces) (drop (get_or laces i 0) body)
@@ -31,36 +32,36 @@ pub one_more : (bytes : List ℕ) (before now : List Entry) (entry : Entry) → 
 one_more bytes before now entry e = rw e (map-append _ before (entry ∷ []))
 
 pub segments_go_on : (laces bytes : List ℕ) (i at : ℕ) (mark : Option Mark) (pending left total-left : Option (List ℕ)) (before now total : List StreamItem) → i < length laces
-    → now ≡ before ++ one_ended (cond (list_any (λ n. nat_lt n 255) (drop (i + 1) laces)) None mark) pending (get_or laces i 0, take (get_or laces i 0) (drop at bytes))
+    → now ≡ before ++ packet_ended (cond (list_any (λ n. nat_lt n 255) (drop (i + 1) laces)) None mark) pending (get_or laces i 0, take (get_or laces i 0) (drop at bytes))
     → left ≡ one_pending pending (get_or laces i 0, take (get_or laces i 0) (drop at bytes))
-    → before ++ ended mark pending (segments (drop i laces) (drop at bytes)) ≡ total
+    → before ++ packets_ended mark pending (segments (drop i laces) (drop at bytes)) ≡ total
     → left_pending pending (segments (drop i laces) (drop at bytes)) ≡ total-left
-    → (now ++ ended mark left (segments (drop (i + 1) laces) (drop (at + get_or laces i 0) bytes)) ≡ total)
+    → (now ++ packets_ended mark left (segments (drop (i + 1) laces) (drop (at + get_or laces i 0) bytes)) ≡ total)
     × (left_pending left (segments (drop (i + 1) laces) (drop (at + get_or laces i 0) bytes)) ≡ total-left)
-unfolding ended left_pending
+unfolding packets_ended left_pending
 segments_go_on laces bytes i at mark pending left total-left before now total lt now-is left-is items-is pending-is =
     let n = get_or laces i 0 in
     let more = segments-more laces i (drop at bytes) lt in
     let rest : drop n (drop at bytes) ≡ drop (at + n) bytes = drop-drop n at bytes in
     let any = any-segments (drop (i + 1) laces) (drop n (drop at bytes)) in
-    let step : ended mark pending (segments (drop i laces) (drop at bytes))
-    ≡ one_ended (cond (list_any (λ k. nat_lt k 255) (drop (i + 1) laces)) None mark) pending (n, take n (drop at bytes)) ++ ended mark (one_pending pending (n, take n (drop at bytes))) (segments (drop (i + 1) laces) (drop n (drop at bytes))) = rw (more, any) refl in (
+    let step : packets_ended mark pending (segments (drop i laces) (drop at bytes))
+    ≡ packet_ended (cond (list_any (λ k. nat_lt k 255) (drop (i + 1) laces)) None mark) pending (n, take n (drop at bytes)) ++ packets_ended mark (one_pending pending (n, take n (drop at bytes))) (segments (drop (i + 1) laces) (drop n (drop at bytes))) = rw (more, any) refl in (
       rw (now-is, left-is, ← rest) (append_assoc before _ _ ∙ ap (λ (x : List StreamItem). before ++ x) (sym step) ∙ items-is),
       rw (left-is, ← rest) (rw more at pending-is),
     )
 
 pub segments_end : (laces bytes : List ℕ) (i at : ℕ) (mark : Option Mark) (pending total-left : Option (List ℕ)) (before total : List StreamItem) → length laces ≤ i
-    → before ++ ended mark pending (segments (drop i laces) (drop at bytes)) ≡ total
+    → before ++ packets_ended mark pending (segments (drop i laces) (drop at bytes)) ≡ total
     → left_pending pending (segments (drop i laces) (drop at bytes)) ≡ total-left
     → (before ≡ total) × (pending ≡ total-left)
-unfolding segments ended left_pending
+unfolding segments packets_ended left_pending
 segments_end laces bytes i at mark pending total-left before total le items-is pending-is =
     let none : drop i laces ≡ [] = drop_all i laces le in
     (sym (append-nil before) ∙ rw none at items-is, rw none at pending-is)
 
 pub packet_ends : (bytes : List ℕ) (before now : List Entry) (place lace : ℕ) (mark : Option Mark) (pending : Option (List ℕ)) (pieces : List Piece) → lace < 255
     → joined bytes pieces ≡ with_segment pending (take lace (drop place bytes)) → now ≡ before ++ Packet pieces mark ∷ []
-    → items_of bytes now ≡ items_of bytes before ++ one_ended mark pending (lace, take lace (drop place bytes))
+    → items_of bytes now ≡ items_of bytes before ++ packet_ended mark pending (lace, take lace (drop place bytes))
 packet_ends bytes before now place lace mark pending pieces lt same now-is =
     let test : nat_lt lace 255 ≡ true = lt-ltb lace 255 lt in
     rw (test, ← same) (one_more bytes before now (Packet pieces mark) now-is)
@@ -78,7 +79,7 @@ one_too_many bytes before limit more item le e =
     rw e (omega (arith, length-append (items_of bytes before) (item ∷ []), length-map before (λ (x : Entry). item_of bytes x)))
 
 pub packet_too_many : (bytes : List ℕ) (before : List Entry) (limit place lace : ℕ) (mark : Option Mark) (pending : Option (List ℕ)) → lace < 255 → limit ≤ length before
-    → limit < length (items_of bytes before ++ one_ended mark pending (lace, take lace (drop place bytes)))
+    → limit < length (items_of bytes before ++ packet_ended mark pending (lace, take lace (drop place bytes)))
 packet_too_many bytes before limit place lace mark pending lt le =
     let test : nat_lt lace 255 ≡ true = lt-ltb lace 255 lt in
     one_too_many bytes before limit _ (packet (with_segment pending (take lace (drop place bytes))) mark) le (rw test refl)
@@ -98,14 +99,14 @@ packet_lies end before now pending pieces mark e here lie = record {
 }
 
 pub segments_too_many : (laces bytes : List ℕ) (i at : ℕ) (mark : Option Mark) (pending : Option (List ℕ)) (before total : List StreamItem) (limit : ℕ) → i < length laces
-    → limit < length (before ++ one_ended (cond (list_any (λ n. nat_lt n 255) (drop (i + 1) laces)) None mark) pending (get_or laces i 0, take (get_or laces i 0) (drop at bytes)))
-    → before ++ ended mark pending (segments (drop i laces) (drop at bytes)) ≡ total
+    → limit < length (before ++ packet_ended (cond (list_any (λ n. nat_lt n 255) (drop (i + 1) laces)) None mark) pending (get_or laces i 0, take (get_or laces i 0) (drop at bytes)))
+    → before ++ packets_ended mark pending (segments (drop i laces) (drop at bytes)) ≡ total
     → limit < length total
-unfolding ended
+unfolding packets_ended
 segments_too_many laces bytes i at mark pending before total limit lt many items-is =
     let n = get_or laces i 0 in
     let more = segments-more laces i (drop at bytes) lt in
     let any = any-segments (drop (i + 1) laces) (drop n (drop at bytes)) in
-    let step : ended mark pending (segments (drop i laces) (drop at bytes))
-    ≡ one_ended (cond (list_any (λ k. nat_lt k 255) (drop (i + 1) laces)) None mark) pending (n, take n (drop at bytes)) ++ ended mark (one_pending pending (n, take n (drop at bytes))) (segments (drop (i + 1) laces) (drop n (drop at bytes))) = rw (more, any) refl in
+    let step : packets_ended mark pending (segments (drop i laces) (drop at bytes))
+    ≡ packet_ended (cond (list_any (λ k. nat_lt k 255) (drop (i + 1) laces)) None mark) pending (n, take n (drop at bytes)) ++ packets_ended mark (one_pending pending (n, take n (drop at bytes))) (segments (drop (i + 1) laces) (drop n (drop at bytes))) = rw (more, any) refl in
     more_too_many before _ _ total limit (ap (λ (x : List StreamItem). before ++ x) (sym step) ∙ items-is) many

@@ -12,12 +12,12 @@ pub enum EntryFault {
     #[error("too many packets")]
     TooMany,
     /// No memory was found for them.
-    #[error("memory")]
+    #[error("out of memory")]
     Memory,
 }
 
 impl From<NoMemory> for EntryFault {
-    ghost from_gives = { λ _ e. e ≡ Memory };
+    ghost from_gives = { λ _ fault. fault ≡ Memory };
 
     fn from(_: NoMemory) -> Self {
         EntryFault::Memory
@@ -25,7 +25,7 @@ impl From<NoMemory> for EntryFault {
 }
 
 impl<T: Drop> From<AllocFailed<T>> for EntryFault {
-    ghost from_gives = { λ _ e. e ≡ Memory };
+    ghost from_gives = { λ _ fault. fault ≡ Memory };
 
     fn from(_: AllocFailed<T>) -> Self {
         EntryFault::Memory

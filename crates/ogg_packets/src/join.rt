@@ -1,7 +1,7 @@
 ghost use Rattle.std.specs.Prelude.{◌≡◌, length, All, IfOk};
-ghost use Rattle.model_ogg.specs.Pieces.{joined, LiesBefore};
+ghost use Rattle.ogg_packets.specs.Pieces.{joined, LiesBefore};
 
-use model_ogg::Pieces;
+use crate::pieces::Pieces;
 use sequence::NoMemory;
 use std::alloc::Global;
 

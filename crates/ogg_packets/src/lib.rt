@@ -1,17 +1,26 @@
-//! Finds the packets of one stream of an Ogg file, and the losses among them (RFC 3533, sections 5 and 6).
+//! Finds the packets of one stream of an Ogg file, and the losses among them (RFC 3533, sections 5
+//! and 6). What a page does to them is said by six rules, which comments cite by number; they stand
+//! at the head of `specs/Entries.antt` of `model_ogg`.
 #![tactic(auto)]
 
+mod entry;
 mod fault;
 mod join;
+mod list;
 mod page;
+mod pieces;
 mod segments;
 mod stream;
+mod walk;
 
+pub use entry::Entry;
 pub use fault::EntryFault;
 pub use join::joined;
-pub use model_ogg::{Entry, Mark, PageRef, Piece, Pieces};
+pub use model_ogg::{Mark, PageRef};
+pub use pieces::{Piece, Pieces};
 pub use sequence::NoMemory;
 pub use stream::packets;
+pub use walk::stream_len;
 
 #[cfg(test)]
 mod tests;

@@ -1,48 +1,48 @@
-ghost use Rattle.std.specs.Prelude.{◌≡◌, ◌<◌, ◌≤◌, ◌^◌, [], ◌∷◌, ◌++◌, length, is_some, if◌then◌else◌, All, IfOk, OnOk};
+ghost use Rattle.std.specs.Prelude.{◌≡◌, ◌<◌, ◌^◌, [], ◌∷◌, ◌++◌, length, is_some, if◌then◌else◌, All, IfOk};
+ghost use Rattle.sequence.specs.Answers.{Answers};
 ghost use Rattle.model_ogg.specs.Pages.{IsPageOf};
 ghost use Rattle.model_ogg.specs.Streams.{stream_of};
-ghost use Rattle.model_ogg.specs.Entries.{lost, items_of, stream_items, EntryLiesBefore, LieBefore};
+ghost use Rattle.model_ogg.specs.Entries.{lost, stream_items};
+ghost use Rattle.ogg_packets.specs.Entries.{items_of, within_limit, EntryLiesBefore, LieBefore};
 
+use crate::entry::Entry;
 use crate::fault::EntryFault;
-use crate::page::{add_loss, read_page};
-use model_ogg::{Entry, PageRef, Pieces};
+use crate::list::EntryList;
+use crate::page::{StreamState, read_page};
+use crate::walk::StreamPages;
+use model_ogg::PageRef;
 use std::alloc::Global;
 
-// Adds the entries of a stream, and gives the packet that is open at its end.
+/// Adds the entries of a stream, and says whether a packet is open at its end.
 fn read_stream(
     alloc: Global,
-    entries: &mut Vec<Entry>,
-    limit: u32,
+    entries: &mut EntryList,
     bytes: &[u8],
     pages: &[PageRef],
     serial: u32,
-) -> Result<Option<Pieces>, EntryFault>
+) -> Result<bool, EntryFault>
     requires pages { All (IsPageOf bytes.now) pages.now }
     requires few { length bytes.now < 2 ^ 32 }
-    requires none { entries.old.items ≡ [] }
-    ensures entries { IfOk result (λ left. items_of bytes.now entries.new.items ++ (if is_some left then lost ∷ [] else [])
+    requires none { entries.old.found.items ≡ [] }
+    ensures limit { entries.new.limit ≡ entries.old.limit }
+    ensures entries { IfOk result (λ is_open. items_of bytes.now entries.new.found.items
+        ++ (if is_open then lost ∷ [] else [])
         ≡ stream_items bytes.now (stream_of serial pages.now)) }
-    ensures lies { IfOk result (λ left. LieBefore (length bytes.now) entries.new.items left) }
-    ensures kept { OnOk result (length entries.new.items ≤ limit) }
-    ensures too_many { result ≡ Err EntryFault.TooMany → limit < length (stream_items bytes.now (stream_of serial pages.now)) }
+    ensures lies { IfOk result (λ _.
+        All (EntryLiesBefore (length bytes.now)) entries.new.found.items) }
+    ensures too_many { result ≡ Err EntryFault.TooMany
+        → entries.old.limit < length (stream_items bytes.now (stream_of serial pages.now)) }
 {
-    let mut expected = None;
-    let mut pending = None;
-    for page in pages {
-        if page.serial != serial {
-            continue;
-        }
-        pending = read_page(alloc, entries, limit, bytes, page, expected, pending)?;
-        if page.is_last() {
-            return Ok(pending);
-        }
-        expected = Some(page.sequence.wrapping_add(1));
+    let mut state = StreamState::new();
+    for page in StreamPages::new(pages, serial) {
+        state = read_page(alloc, entries, bytes, page, state)?;
     }
-    Ok(pending)
+    Ok(state.pending.is_some())
 }
 
-/// The entries of the stream of a serial number among these pages, up to and with its first last page, if they are at
-/// most `limit`. The pages are pages of these bytes, in order; no byte is copied.
+/// The entries of the stream of a serial number among these pages, up to and with its first last
+/// page, if they are at most `limit`. The pages are pages of these bytes, in order; no byte is
+/// copied.
 ///
 /// # Errors
 ///
@@ -56,14 +56,13 @@ pub fn packets(
 ) -> Result<Vec<Entry>, EntryFault>
     requires pages { All (IsPageOf bytes.now) pages.now }
     requires few { length bytes.now < 2 ^ 32 }
-
-    ensures entries { IfOk result (λ entries. items_of bytes.now entries.items ≡ stream_items bytes.now (stream_of serial pages.now)) }
-    ensures within { IfOk result (λ entries. All (EntryLiesBefore (length bytes.now)) entries.items) }
-    ensures limit { IfOk result (λ _. length (stream_items bytes.now (stream_of serial pages.now)) ≤ limit) }
-    ensures too_many { result ≡ Err EntryFault.TooMany → limit < length (stream_items bytes.now (stream_of serial pages.now)) }
+    ensures answers { Answers EntryFault.Memory (λ entries. items_of bytes.now entries.items) result
+        (within_limit limit (stream_items bytes.now (stream_of serial pages.now))) }
+    ensures within { IfOk result (λ entries.
+        All (EntryLiesBefore (length bytes.now)) entries.items) }
 {
-    let mut entries = Vec::new(alloc);
-    let pending = read_stream(alloc, &mut entries, limit, bytes, pages, serial)?;
-    add_loss(&mut entries, limit, pending.is_some())?;
-    Ok(entries)
+    let mut entries = EntryList::new(alloc, limit);
+    let is_open = read_stream(alloc, &mut entries, bytes, pages, serial)?;
+    entries.add_loss(is_open)?;
+    Ok(entries.into_entries())
 }

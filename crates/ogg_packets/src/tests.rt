@@ -1,12 +1,12 @@
 ghost use Rattle.std.specs.Prelude.{length};
-ghost use Rattle.model_ogg.specs.Entries.{EntryLiesBefore};
+ghost use Rattle.ogg_packets.specs.Entries.{EntryLiesBefore};
 
 use super::*;
 use ogg_pages::scan;
 use std::alloc::Global;
 use std::test::Fail;
 
-// Two pages: one full segment of sevens, and the packet's end with an empty packet after it.
+/// Two pages: one full segment of sevens, and the packet's end with an empty packet after it.
 const TWO_PAGES: [u8; 315] = [
     0x4f, 0x67, 0x67, 0x53, 0x00, 0x02, 0xff, 0xff, 0xff, 0xff, 0xff, 0xff, 0xff, 0xff, 0x01, 0x00,
     0x00, 0x00, 0x00, 0x00, 0x00, 0x00, 0xc7, 0xdc, 0x6d, 0xbd, 0x01, 0xff, 0x07, 0x07, 0x07, 0x07,
@@ -30,7 +30,7 @@ const TWO_PAGES: [u8; 315] = [
     0x00, 0xe0, 0x55, 0x2c, 0x17, 0x02, 0x03, 0x00, 0x61, 0x62, 0x63,
 ];
 
-// The bytes of an entry, where it is a packet.
+/// The bytes of an entry, where it is a packet.
 fn bytes_of(alloc: Global, bytes: &[u8], entry: &Entry) -> Result<Option<Vec<u8>>, NoMemory>
     requires { EntryLiesBefore (length bytes.now) entry.now }
 {
@@ -47,10 +47,6 @@ fn bytes_of(alloc: Global, bytes: &[u8], entry: &Entry) -> Result<Option<Vec<u8>
 fn joins_a_packet_over_two_pages(rt: HostRuntime) -> Result<(), Fail> {
     let alloc = rt.alloc();
     let pages = scan(alloc, &TWO_PAGES)?;
-    assert_eq!(rt;
-        packets(alloc, &TWO_PAGES, &pages, 1, 1).err(),
-        Some(EntryFault::TooMany)
-    );
     let entries = packets(alloc, &TWO_PAGES, &pages, 1, 2)?;
     let mut lens = Vec::new(alloc);
     for entry in &entries {
@@ -59,5 +55,40 @@ fn joins_a_packet_over_two_pages(rt: HostRuntime) -> Result<(), Fail> {
         }
     }
     assert_eq!(rt; lens.as_slice(), [(258, Some(b'c')), (0, None)].as_slice());
+    Ok(())
+}
+
+#[test]
+fn gives_no_more_packets_than_the_limit(rt: HostRuntime) -> Result<(), Fail> {
+    let pages = scan(rt.alloc(), &TWO_PAGES)?;
+    let rows = [
+        ("of no packets", 2, 0, 0, None),
+        ("as many as the limit", 1, 2, 2, None),
+        (
+            "one more than the limit",
+            1,
+            1,
+            2,
+            Some(EntryFault::TooMany),
+        ),
+    ];
+    for (case, serial, limit, page_count, fault) in rows {
+        assert_eq!(rt; stream_len(&pages, serial), page_count, "{case}");
+        let answer = packets(rt.alloc(), &TWO_PAGES, &pages, serial, limit);
+        assert_eq!(rt; answer.err(), fault, "{case}");
+    }
+    Ok(())
+}
+
+#[test]
+fn says_what_is_wrong(rt: HostRuntime) -> Result<(), Fail> {
+    let rows = [
+        (EntryFault::TooMany, "too many packets"),
+        (EntryFault::Memory, "out of memory"),
+    ];
+    for (fault, expected) in rows {
+        let text = format!(in rt.alloc(); "{fault}")?;
+        assert_eq!(rt; text.as_str(), expected);
+    }
     Ok(())
 }

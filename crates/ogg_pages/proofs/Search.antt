@@ -6,8 +6,9 @@ use Rattle.std.proofs.lemmas.Bool.Decides.{Decides-eqb}
 use Rattle.std.proofs.lemmas.Slice.Eq.{starts_is}
 use Rattle.std.proofs.lemmas.List.{get_or-take, get_or-drop, drop-drop, length-drop}
 use Rattle.memchr.specs.Find.{OccursAt, Nowhere, FindsNeedle}
+use Rattle.model_ogg.specs.declared.page.TheConstants.{HEADER_LEN}
 use Rattle.model_ogg.specs.declared.page.PageRef.{PageRef}
-use Rattle.model_ogg.specs.Pages.{page_len, is_right_page, begins_page, page_ref, pages}
+use Rattle.model_ogg.specs.Pages.{len_of, page_len, is_right_page, begins_page, page_ref, pages}
 use Rattle.model_ogg.proofs.PageLaws.{pages_law, page_len-least, page_ref-len, begins_page-fits}
 use Rattle.ogg_pages.specs.Next.{page_front, IsNextPage}
 use Rattle.std.proofs.lemmas.Option.{cond_some}
@@ -99,7 +100,7 @@ next_there bytes from place page le over there =
     let one = found_one bytes place page [] (pages bytes place) over.below there refl in
     let fits = (page_there-len bytes place page over.below there).1 in
     record {
-      first = over.same ∙ sym one ∙ ap (λ (i : ℕ). page ∷ pages bytes (i + (27 + page.segments + page.body))) (sym here);
+      first = over.same ∙ sym one ∙ ap (λ (i : ℕ). page ∷ pages bytes (i + len_of page)) (sym here);
       after = omega arith;
       within = omega arith;
     }
@@ -111,23 +112,23 @@ none_there bytes from place over there = over.same ∙ sym (found_none bytes pla
 -- a page that is whole
 pub record IsWhole (rest : List ℕ) (place : ℕ) (page : PageRef) : Type 0 where
   pub header : page ≡ page_ref place rest
-  pub len : 27 + page.segments + page.body ≡ page_len rest
+  pub len : len_of page ≡ page_len rest
   pub test : nat_le (page_len rest) (length rest) ≡ true
   pub fits : page_len rest ≤ length rest
-  pub least : 27 ≤ page_len rest
+  pub least : HEADER_LEN ≤ page_len rest
 
 pub whole_there : (rest : List ℕ) (place : ℕ) (page : PageRef) → Some page ≡ cond (nat_le (page_len rest) (length rest)) (Some (page_ref place rest)) None → IsWhole rest place page
 whole_there rest place page e =
     let p = cond_some (nat_le (page_len rest) (length rest)) (page_ref place rest) page (sym e) in
     record {
       header = sym p.1;
-      len = ap (λ (x : PageRef). 27 + x.segments + x.body) (sym p.1) ∙ page_ref-len place rest;
+      len = ap (λ (x : PageRef). len_of x) (sym p.1) ∙ page_ref-len place rest;
       test = p.0;
       fits = leb-true (page_len rest) (length rest) p.0;
       least = page_len-least rest;
     }
 
-pub begins_there : (rest : List ℕ) (place n : ℕ) (page : PageRef) (right : Bool) → IsWhole rest place page → n ≡ 27 + page.segments + page.body → right ≡ is_right_page (take n rest) → begins_page rest ≡ right
+pub begins_there : (rest : List ℕ) (place n : ℕ) (page : PageRef) (right : Bool) → IsWhole rest place page → n ≡ len_of page → right ≡ is_right_page (take n rest) → begins_page rest ≡ right
 unfolding begins_page
 begins_there rest place n page right whole len is =
     let same : n ≡ page_len rest = len ∙ whole.len in

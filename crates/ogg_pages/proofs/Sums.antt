@@ -23,6 +23,8 @@ bytes_end bytes i r total le h =
     let one : fold with_byte r (counted i (drop i bytes)) ≡ r = at_drop_all (λ (rest : List ℕ). fold with_byte r (counted i rest)) bytes i le in
     sym one ∙ h
 
+pub ruleset byte_steps = (bytes_begin, bytes_go_on, bytes_end)
+
 -- what stands behind the checksum itself counts as it is
 counted-behind : (place : ℕ) (bytes : List ℕ) → 26 ≤ place → counted place bytes ≡ bytes
 unfolding counted read_as

@@ -3,7 +3,8 @@ ghost use Rattle.model_ogg.specs.Checksum.{with_byte, read_as, checksum_of};
 
 use crate::tables::TABLES;
 
-// The register with this byte at its top, after as many bytes 0 as the table's number and one more.
+/// The register with this byte at its top, after as many bytes 0 as the table's number and one
+/// more.
 #[tactic(auto, using(crate::proofs::Rows::table_at))]
 fn entry(table: usize, byte: u8) -> u32
     requires { table < 8 }
@@ -12,7 +13,7 @@ fn entry(table: usize, byte: u8) -> u32
     TABLES[table][usize::from(byte)]
 }
 
-// The register after one more byte.
+/// The register after one more byte.
 fn byte_added(register: u32, byte: u8) -> u32
     ensures { result ≡ with_byte register byte }
 {
@@ -20,8 +21,8 @@ fn byte_added(register: u32, byte: u8) -> u32
     (register << 8) ^ entry(0, top ^ byte)
 }
 
-// The register after eight more bytes. Each of them comes to its entry of the table of the bytes that follow it, and so
-// does each byte of the register, at the place of the first four.
+/// The register after eight more bytes. Each of them comes to its entry of the table of the bytes
+/// that follow it, and so does each byte of the register, together with one of the first four.
 fn eight_added(register: u32, bytes: &[u8; 8]) -> u32
     ensures { result ≡ fold with_byte register bytes.now }
 {
@@ -36,7 +37,7 @@ fn eight_added(register: u32, bytes: &[u8; 8]) -> u32
         ^ entry(7, tops[0] ^ bytes[0])
 }
 
-// The register after fewer bytes than a step of eight takes.
+/// The register after fewer bytes than a step of eight takes.
 fn few_added(register: u32, bytes: &[u8]) -> u32
     ensures { result ≡ fold with_byte register bytes.now }
 {
@@ -47,7 +48,7 @@ fn few_added(register: u32, bytes: &[u8]) -> u32
     sum
 }
 
-// The register after these bytes.
+/// The register after these bytes.
 fn bytes_added(register: u32, bytes: &[u8]) -> u32
     ensures { result ≡ fold with_byte register bytes.now }
 {
@@ -60,27 +61,28 @@ fn bytes_added(register: u32, bytes: &[u8]) -> u32
     few_added(sum, rest)
 }
 
-// What a byte at this place of a page counts as.
+/// What the byte at this offset of a page counts as.
 #[tactic(auto, unfolding(model_ogg::specs::Checksum::read_as))]
-fn byte_read(place: usize, byte: u8) -> u8
-    ensures { result ≡ read_as place byte }
+fn byte_read(offset: usize, byte: u8) -> u8
+    ensures { result ≡ read_as offset byte }
 {
-    if (22..26).contains(&place) { 0 } else { byte }
+    if (22..26).contains(&offset) { 0 } else { byte }
 }
 
-// The checksum of the front of a page, as far as the checksum itself stands in it.
-#[tactic(auto, using(crate::proofs::Sums::bytes_begin, crate::proofs::Sums::bytes_go_on, crate::proofs::Sums::bytes_end))]
+/// The checksum of the front of a page, as far as the checksum itself stands in it.
+#[tactic(auto, using(crate::proofs::Sums::byte_steps))]
 fn front_checksum(bytes: &[u8]) -> u32
     ensures { result ≡ checksum_of bytes.now }
 {
     let mut sum = 0;
-    for (place, byte) in bytes.iter().enumerate() {
-        sum = byte_added(sum, byte_read(place, *byte));
+    for (offset, byte) in bytes.iter().enumerate() {
+        sum = byte_added(sum, byte_read(offset, *byte));
     }
     sum
 }
 
-/// The checksum of a page, of which bytes 22 to 25, the checksum itself, count as 0 (RFC 3533, section 6, field 7).
+/// The checksum of a page, of which bytes 22 to 25, the checksum itself, count as 0 (RFC 3533,
+/// section 6, field 7).
 #[tactic(auto, using(crate::proofs::Sums::front_and_rest))]
 pub fn checksum(bytes: &[u8]) -> u32
     ensures { result ≡ checksum_of bytes.now }

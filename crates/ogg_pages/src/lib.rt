@@ -8,7 +8,7 @@ mod tables;
 
 pub use crc::checksum;
 pub use model_ogg::PageRef;
-pub use parts::{body, laces};
+pub use parts::{body, laces, segment_place};
 pub use scanner::scan;
 pub use sequence::NoMemory;
 

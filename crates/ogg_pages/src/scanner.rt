@@ -1,27 +1,19 @@
 ghost use Rattle.std.specs.Prelude.{◌≡◌, ◌<◌, ◌≤◌, ◌^◌, ◌+◌, [], length, sum, nat_le, if◌then◌else◌, MatchOption, IfOk, Some, None, All};
-ghost use Rattle.model_ogg.specs.Pages.{IsPageOf};
-ghost use Rattle.model_ogg.specs.Pages.{laces, page_len, is_right_page, begins_page, page_ref, pages};
+ghost use Rattle.model_ogg.specs.Pages.{IsPageOf, len_of, laces, page_len, is_right_page, begins_page, page_ref, pages};
 ghost use Rattle.ogg_pages.specs.Next.{page_front, IsNextPage};
 
 use crate::crc::checksum;
+use crate::parts::segments_len;
 use byteorder::{ByteOrder, LittleEndian};
 use memchr::memmem::Finder;
-use model_ogg::PageRef;
+use model_ogg::{HEADER_LEN, PageRef};
 use sequence::NoMemory;
 use std::alloc::Global;
 
-// How many bytes the lacing values say that the body has.
-fn body_len(laces: &[u8]) -> u32
-    requires { length laces.now ≤ 255 }
-    ensures { result ≡ sum laces.now }
-{
-    laces.iter().map(|lace| u32::from(*lace)).sum()
-}
-
-// What the header at the front says, of a page whose body has so many bytes.
+/// What the header at the front says, of a page whose body has so many bytes.
 #[tactic(auto, unfolding(model_ogg::specs::Pages::page_ref, model_ogg::specs::Pages::granule_of))]
 fn header(rest: &[u8], place: u64, body: u32) -> PageRef
-    requires whole { 27 ≤ length rest.now }
+    requires whole { HEADER_LEN ≤ length rest.now }
     requires body { body ≡ sum (laces rest.now) }
     ensures { result ≡ page_ref place rest.now }
 {
@@ -41,36 +33,37 @@ fn header(rest: &[u8], place: u64, body: u32) -> PageRef
     }
 }
 
-// What the header at the front says, where the page is whole.
+/// What the header at the front says, where the page is whole.
 #[tactic(auto, unfolding(model_ogg::specs::Pages::page_len))]
 fn whole_page(rest: &[u8], place: u64) -> Option<PageRef>
-    ensures { result ≡ (if nat_le (page_len rest.now) (length rest.now) then Some (page_ref place rest.now) else None) }
+    ensures { result ≡ (if nat_le (page_len rest.now) (length rest.now)
+        then Some (page_ref place rest.now) else None) }
 {
-    if rest.len() < 27 {
+    if rest.len() < HEADER_LEN {
         return None;
     }
-    let laces_end = 27 + usize::from(rest[26]);
+    let laces_end = HEADER_LEN + usize::from(rest[26]);
     if rest.len() < laces_end {
         return None;
     }
-    let body = body_len(&rest[27..laces_end]);
+    let body = segments_len(&rest[HEADER_LEN..laces_end]);
     if rest.len() < laces_end + body as usize {
         return None;
     }
     Some(header(rest, place, body))
 }
 
-// How many bytes a page has.
+/// How many bytes a page has.
 fn len(page: &PageRef) -> usize
-    ensures { result ≡ 27 + page.now.segments + page.now.body }
+    ensures { result ≡ len_of page.now }
 {
-    27 + usize::from(page.segments) + page.body as usize
+    HEADER_LEN + usize::from(page.segments) + page.body as usize
 }
 
-// Whether a whole page has capture bytes, version 0 and its checksum.
+/// Whether a whole page has capture bytes, version 0 and its checksum.
 #[tactic(auto, unfolding(model_ogg::specs::Pages::is_right_page))]
 fn is_right(page: &[u8]) -> bool
-    requires { 27 ≤ length page.now }
+    requires { HEADER_LEN ≤ length page.now }
     ensures { result ≡ is_right_page page.now }
 {
     page.starts_with(b"OggS")
@@ -78,7 +71,7 @@ fn is_right(page: &[u8]) -> bool
         && LittleEndian::read_u32(&page[22..]) == checksum(page)
 }
 
-// The page at the front, where a right one is there.
+/// The page at the front, where a right one is there.
 #[tactic(auto, unfolding(model_ogg::specs::Pages::begins_page))]
 fn page_at(rest: &[u8], place: u64) -> Option<PageRef>
     ensures { result ≡ (if begins_page rest.now then Some (page_ref place rest.now) else None) }
@@ -91,7 +84,8 @@ fn page_at(rest: &[u8], place: u64) -> Option<PageRef>
     }
 }
 
-// The first page from a place on. Each begins with the capture bytes and the version, which the finder looks for.
+/// The first page from a place on. Each begins with the capture bytes and the version, which the
+/// finder looks for.
 fn next_page(bytes: &[u8], finder: &Finder, from: usize) -> Option<PageRef>
     requires len { length bytes.now < 2 ^ 32 }
     requires within { from ≤ length bytes.now }

@@ -2,8 +2,8 @@ use super::*;
 use std::alloc::{AllocError, Global};
 use std::test::Fail;
 
-// Two pages between other bytes: one with the first-page flag and one byte, one with the last-page flag, a granule
-// position and two segments.
+/// Two pages between other bytes: one with the first-page flag and one byte, one with the last-page
+/// flag, a granule position and two segments.
 const PAGES_BETWEEN: [u8; 64] = [
     0x4f, 0x67, 0x4f, 0x67, 0x67, 0x53, 0x00, 0x02, 0x00, 0x00, 0x00, 0x00, 0x00, 0x00, 0x00, 0x00,
     0x01, 0x00, 0x00, 0x00, 0x07, 0x00, 0x00, 0x00, 0x4f, 0x34, 0x8c, 0x43, 0x01, 0x01, 0x61, 0x67,
@@ -36,17 +36,18 @@ fn finds_the_pages_between_other_bytes(rt: HostRuntime) -> Result<(), Fail> {
     Ok(())
 }
 
-// The check value of this checksum: polynomial 0x04c11db7, no reflection, from 0, over the digits 1 to 9.
+/// The check value of this checksum: polynomial 0x04c11db7, no reflection, from 0, over the digits
+/// 1 to 9.
 #[test]
 fn has_the_published_check_value(rt: HostRuntime) {
     assert_eq!(rt; checksum(b"123456789"), 0x89a1_897f);
 }
 
-// The checksum as it is defined, a bit at a time.
+/// The checksum as it is defined, a bit at a time.
 fn checksum_bit_by_bit(bytes: &[u8]) -> u32 {
     let mut sum = 0u32;
-    for (place, byte) in bytes.iter().enumerate() {
-        let counted = if (22..26).contains(&place) { 0 } else { *byte };
+    for (offset, byte) in bytes.iter().enumerate() {
+        let counted = if (22..26).contains(&offset) { 0 } else { *byte };
         sum ^= u32::from(counted) << 24;
         for _ in 0..8u32 {
             let doubled = sum << 1;
@@ -60,6 +61,7 @@ fn checksum_bit_by_bit(bytes: &[u8]) -> u32 {
     sum
 }
 
+/// So many bytes that look like none in particular.
 fn sample(alloc: Global, len: u32) -> Result<Vec<u8>, AllocError> {
     let mut bytes = Vec::new(alloc);
     let mut byte = 7u8;
@@ -70,12 +72,17 @@ fn sample(alloc: Global, len: u32) -> Result<Vec<u8>, AllocError> {
     Ok(bytes)
 }
 
-// Lengths round the bytes of the checksum itself, round one and two steps of eight behind them, and a long one.
+/// Lengths round the bytes of the checksum itself, round one and two steps of eight behind them,
+/// and a long one.
 #[test]
 fn sums_by_tables_as_bit_by_bit(rt: HostRuntime) -> Result<(), Fail> {
     for len in [0u32, 1, 9, 22, 23, 25, 26, 27, 33, 34, 35, 42, 300] {
         let bytes = sample(rt.alloc(), len)?;
-        assert_eq!(rt; checksum(&bytes), checksum_bit_by_bit(&bytes));
+        assert_eq!(rt;
+            checksum(&bytes),
+            checksum_bit_by_bit(&bytes),
+            "{len} bytes"
+        );
     }
     Ok(())
 }

@@ -1,5 +1,5 @@
 use Rattle.std.proofs.Common.{◌≡◌, ◌++◌, drop}
-use Rattle.model_ogg.specs.Pieces.{joined}
+use Rattle.ogg_packets.specs.Pieces.{joined}
 use Rattle.ogg_packets.proofs.join.joined.Given as goal
 
 abbrev pub invariant-loop-piece : goal.invariant-loop-piece

@@ -23,7 +23,7 @@ loop-i-preserved c =
       lies = λ end fits lie.
           let here : c.loop-i.at + get_or laces i 0 ≤ end = omega (arith, c.loop-i.invariant.place) in
           c.in_ok-pending.ensures.lies end here (c.loop-i.invariant.lies end fits lie);
-      kept = λ few. c.in_ok-pending.ensures.kept (c.loop-i.invariant.kept few);
+      limit = c.in_ok-pending.ensures.limit ∙ c.loop-i.invariant.limit;
     })
 
 pub returns-clause-entries : goal.returns-clause-entries
@@ -40,4 +40,4 @@ returns-in_err-pending-clause-too_many c = λ e bytes.
     let many = c.in_err-pending.ensures.too_many (cc) bytes in
     let mark-is : c.mark_before-packet_mark.result ≡ cond (list_any (λ n. nat_lt n 255) (drop (i + 1) laces)) None c.args.mark =
     rw (take_rest laces (i + 1)) at c.mark_before-packet_mark.ensures in
-    segments_too_many laces bytes i c.loop-i.at c.args.mark _ _ _ c.args.limit c.loop-i-test.true (rw mark-is at many) (c.loop-i.invariant.entries bytes)
+    segments_too_many laces bytes i c.loop-i.at c.args.mark _ _ _ c.args.entries.now.limit c.loop-i-test.true (rw (mark-is, c.loop-i.invariant.limit) at many) (c.loop-i.invariant.entries bytes)

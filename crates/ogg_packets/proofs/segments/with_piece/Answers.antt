@@ -1,4 +1,4 @@
-use Rattle.model_ogg.proofs.PieceLaws.{joined-one}
+use Rattle.ogg_packets.proofs.PieceLaws.{joined-one}
 use Rattle.ogg_packets.proofs.segments.with_piece.Goals as goal
 
 pub returns-in_ok-add-in-Some-clause-lies : goal.returns-in_ok-add-in-Some-clause-lies

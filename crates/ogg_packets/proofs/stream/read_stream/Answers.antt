@@ -1,31 +1,42 @@
-use Rattle.std.proofs.Common.{[], get_or, refl, sym}
+use Rattle.std.proofs.Common.{◌≡◌, ◌∙◌, refl, arith}
 use Rattle.std.proofs.lemmas.Result.{err_from_is_err_and}
-use Rattle.ogg_packets.proofs.StreamSteps.{stream_of-goes_on, stream_of-ends, stream_of-more, stream_of-none, stream_step, stream_too_many, stream_end, no_page}
+use Rattle.model_ogg.specs.Pages.{IsPageOf}
+use Rattle.ogg_packets.proofs.StreamSteps.{All-stream_of, first_of, stream_step, stream_too_many, stream_end}
 use Rattle.ogg_packets.proofs.stream.read_stream.Goals as goal
 
-pub returns-in_err-pending-clause-too_many : goal.returns-in_err-pending-clause-too_many
-returns-in_err-pending-clause-too_many c = λ e.
-    let p = err_from_is_err_and c.from_residual.result c.from_residual.ensures.1 in
-    let many = c.in_err-pending.ensures.too_many (cc) in
-    let more = stream_of-more c.args.serial c.args.pages.now c.loop-page.page-index no_page c.loop-page-test.true c.if-page-serial.false in
-    stream_too_many c.args.bytes.now _ more.0 (get_or c.args.pages.now c.loop-page.page-index no_page) c.loop-page.expected _ _ _ c.args.limit more.1 many c.loop-page.invariant.entries
+pub loop-page-init : goal.loop-page-init
+loop-page-init c =
+    let pages = c.args.pages.now in
+    let it = c.into_iter-page-iterator.result in
+    let rest-is : it.rest.now ≡ pages = cc (c.into_iter-page-iterator.ensures.into_iter_gives, c.new-page-items.ensures.pages) in
+    let serial-is : it.serial ≡ c.args.serial = cc (c.into_iter-page-iterator.ensures.into_iter_gives, c.new-page-items.ensures.serial) in
+    record {
+      can = tt;
+      finite = tt;
+      pages = rw (rest-is, serial-is) (All-stream_of (IsPageOf c.args.bytes.now) c.args.serial pages c.requires.pages);
+      limit = refl;
+      entries = rw (rest-is, serial-is, c.new-state.ensures.expected, c.new-state.ensures.pending, c.requires.none) refl;
+      lies = rw (c.requires.none, c.new-state.ensures.pending) (record { entries = λ k d lt. absurd (omega (arith, lt)); pending = tt });
+    }
 
-pub returns-then-is_last-clause-entries : goal.returns-then-is_last-clause-entries
-returns-then-is_last-clause-entries c =
-    let ends = stream_of-ends c.args.serial c.args.pages.now c.loop-page.page-index no_page c.loop-page-test.true c.if-page-serial.false (sym c.if-is_last.ensures) in
-    stream_end c.args.bytes.now [] _ c.in_ok-pending.pending _ _ _ refl refl
-    (stream_step c.args.bytes.now _ [] (get_or c.args.pages.now c.loop-page.page-index no_page) c.loop-page.expected _ _ _ _ _ ends c.in_ok-pending.ensures.entries c.in_ok-pending.ensures.pending c.loop-page.invariant.entries)
+pub returns-in_err-state-clause-too_many : goal.returns-in_err-state-clause-too_many
+returns-in_err-state-clause-too_many c = λ e.
+    let p = err_from_is_err_and c.from_residual.result c.from_residual.ensures.1 in
+    let many = rw c.loop-page.invariant.limit at c.in_err-state.ensures.too_many (cc) in
+    stream_too_many c.args.bytes.now _ _ c.in-Some.page.now c.loop-page.state.expected _ _ _ c.args.entries.now.limit c.in-Some.ensures.steps many c.loop-page.invariant.entries
 
 pub loop-page-preserved : goal.loop-page-preserved
 loop-page-preserved c =
-    let goes_on = stream_of-goes_on c.args.serial c.args.pages.now c.loop-page.page-index no_page c.loop-page-test.true c.if-page-serial.false (sym c.if-is_last.ensures) in
+    let step = c.in-Some.ensures.steps in
+    let split = first_of (IsPageOf c.args.bytes.now) _ _ c.in-Some.page.now step c.loop-page.invariant.pages in
     record {
-      entries = stream_step c.args.bytes.now _ _ (get_or c.args.pages.now c.loop-page.page-index no_page) c.loop-page.expected _ _ _ _ _ goes_on c.in_ok-pending.ensures.entries c.in_ok-pending.ensures.pending c.loop-page.invariant.entries;
-      lies = c.in_ok-pending.ensures.lies c.loop-page.invariant.lies;
-      kept = c.in_ok-pending.ensures.kept c.loop-page.invariant.kept;
+      can = tt;
+      finite = tt;
+      pages = split.1;
+      limit = c.in_ok-state.ensures.limit ∙ c.loop-page.invariant.limit;
+      entries = rw c.in_ok-state.ensures.expected (stream_step c.args.bytes.now _ _ c.in-Some.page.now c.loop-page.state.expected _ _ _ _ _ step c.in_ok-state.ensures.entries c.in_ok-state.ensures.pending c.loop-page.invariant.entries);
+      lies = c.in_ok-state.ensures.lies c.loop-page.invariant.lies;
     }
 
 pub returns-clause-entries : goal.returns-clause-entries
-returns-clause-entries c =
-    let none = stream_of-none c.args.serial c.args.pages.now c.loop-page.page-index c.loop-page-test.false in
-    stream_end c.args.bytes.now _ c.loop-page.expected c.loop-page.pending _ _ _ none refl c.loop-page.invariant.entries
+returns-clause-entries c = rw c.is_some.ensures (stream_end c.args.bytes.now _ _ c.loop-page.state.pending _ _ _ c.in-None.ensures.steps.0 refl c.loop-page.invariant.entries)
