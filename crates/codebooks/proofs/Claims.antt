@@ -129,7 +129,7 @@ still_covered words free new entry len start small sp c x not_in z s at low high
       ]
     ]
 
-apart_either : (s n : ℕ) (w : Word) → is_apart s n w ≡ true → (w.start + size_of w.len ≤ s) ⊎ (s + n ≤ w.start)
+pub apart_either : (s n : ℕ) (w : Word) → is_apart s n w ≡ true → (w.start + size_of w.len ≤ s) ⊎ (s + n ≤ w.start)
 apart_either s n w h = elim (or_cases (leb (s + n) w.start) (leb (w.start + size_of w.len) s) h) [
   | inl before ↦ inr (leb-true (s + n) w.start before)
   | inr behind ↦ inl (leb-true (w.start + size_of w.len) s behind)
@@ -189,14 +189,14 @@ spaces_none free all none = record {
 }
 
 -- a step of the loop over the lengths
-pub word_found : (words : List Word) (free new : List (Option ℕ)) (entry len start : ℕ) → len ≤ 32 → Spaces words free → Claim free new len start → (more : List (Option ℕ)) → words_behind words entry (Some len ∷ more) ≡ words_behind (words ++ word entry len start ∷ []) (entry + 1) more
+pub word_found : (words : List Word) (free new : List (Option ℕ)) (entry len start : ℕ) → len ≤ 32 → Spaces words free → Claim free new len start → words_behind words entry (Some len ∷ []) ≡ Some (words ++ word entry len start ∷ [])
 unfolding words_behind
-word_found words free new entry len start small sp c more =
+word_found words free new entry len start small sp c =
     rw (nearest_first words free sp len c.level start small c.near c.was c.between) refl
 
-pub word_refused : (words : List Word) (free : List (Option ℕ)) (entry len : ℕ) → len ≤ 32 → Spaces words free → ((z : ℕ) → z ≤ len → get_or free z None ≡ None) → (more : List (Option ℕ)) → words_behind words entry (Some len ∷ more) ≡ None
+pub word_refused : (words : List Word) (free : List (Option ℕ)) (entry len : ℕ) → len ≤ 32 → Spaces words free → ((z : ℕ) → z ≤ len → get_or free z None ≡ None) → words_behind words entry (Some len ∷ []) ≡ None
 unfolding words_behind
-word_refused words free entry len small sp none more = rw (none_free words free sp len small none) refl
+word_refused words free entry len small sp none = rw (none_free words free sp len small none) refl
 
 abbrev none_of : Option ℕ
 none_of = None

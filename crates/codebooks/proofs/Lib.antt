@@ -1,7 +1,8 @@
 pub mod Places
 pub mod Claims
+pub mod WordLists
 pub mod Finds
-pub mod Walks
+pub mod Looks
 pub mod Permuted
 pub mod LengthLists
 pub mod Comparisons
@@ -9,4 +10,7 @@ pub mod Scales
 pub mod Bounds
 pub mod Fills
 pub mod SmallVectors
-pub mod Heads
+pub mod FirstValues
+pub mod Units
+pub mod Layouts
+pub mod TreeWords

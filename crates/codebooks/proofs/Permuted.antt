@@ -13,7 +13,7 @@ use Rattle.model_setup.specs.Codewords.{begins, entry_begun, entry_by, entry_of,
 use Rattle.model_setup.proofs.Digits.{not_both}
 use Rattle.std.specs.Prelude.{is_some}
 use Rattle.codebooks.specs.Books.{words_or_none}
-use Rattle.codebooks.specs.Ranges.{SameOrApart, IsBegun, NoneBegins}
+use Rattle.codebooks.specs.Looks.{SameOrApart, IsBegun, NoneBegins}
 use Rattle.codebooks.proofs.Finds.{find_none_of, find_at_first}
 
 turned : (v w : Word) → AreApart v w → AreApart w v

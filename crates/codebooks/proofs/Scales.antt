@@ -1,5 +1,5 @@
 -- Shifts and limits of signed numbers.
-use Rattle.std.proofs.Common.{◌≡◌, ℕ, zero, suc, ◌*◌, ◌/◌, ◌%◌, ◌^◌, ◌<◌, ◌≤◌, ℤ, pos, negsuc, ◌*ℤ◌, unsigned_abs, min, inl, inr, ap, sym, ◌∙◌, arith, w64, to_z, of_z, ◌+ℤ◌}
+use Rattle.std.proofs.Common.{◌≡◌, ℕ, zero, suc, ◌*◌, ◌/◌, ◌%◌, ◌^◌, ◌<◌, ◌≤◌, ℤ, pos, negsuc, ◌*ℤ◌, unsigned_abs, min, inl, inr, ap, sym, ◌∙◌, arith, w64, to_z, of_z}
 use Rattle.std.specs.Int.{saturate_signed}
 use Rattle.std.proofs.lemmas.Int.{ints, clamps, to_z-of_z, to_z_pos, fits_signed_from_abs}
 use Rattle.std.proofs.lemmas.Bool.{cases_lt}
@@ -8,7 +8,7 @@ use Rattle.std.proofs.Math.Nat.{mul-le-mul_right, div-eq_of_lt, div-le_self}
 use Rattle.std.proofs.Math.Pow.{pow_mono}
 use lib.Signed.{shr_z}
 use Rattle.std.specs.Prelude.{FitsSigned}
-use Rattle.model_fixed.specs.Fixed.{clamp, floor_shift}
+use Rattle.model_fixed.specs.Fixed.{clamp, shift_down}
 
 -- a limit hides that of 64 bits
 saturated : (z : ℤ) → clamp (2 ^ 32) (saturate_signed w64 z) ≡ clamp (2 ^ 32) z
@@ -39,14 +39,14 @@ scaled_up_is z shift s e = saturated (z *ℤ pos (2 ^ s)) ∙ elim (cases_lt shi
 gone : (a k : ℕ) → a < 2 ^ 63 → 63 ≤ k → a / 2 ^ k ≡ 0
 gone a k h l = let p : 2 ^ 63 ≤ 2 ^ k = pow_mono l in div-eq_of_lt (omega arith)
 
-shifted_out : (z : ℤ) (k : ℕ) → unsigned_abs z ≤ 2 ^ 53 → 63 ≤ k → floor_shift z 63 ≡ floor_shift z k
+shifted_out : (z : ℤ) (k : ℕ) → unsigned_abs z ≤ 2 ^ 53 → 63 ≤ k → shift_down z 63 ≡ shift_down z k
 shifted_out (pos a) k h l = ap pos (gone a 63 (omega arith) (omega arith) ∙ sym (gone a k (omega arith) l))
 shifted_out (negsuc a) k h l = ap negsuc (gone a 63 (omega arith) (omega arith) ∙ sym (gone a k (omega arith) l))
 
-pub shift_is : (z : ℤ) (shift s : ℕ) → unsigned_abs z ≤ 2 ^ 53 → s ≡ min shift 63 → floor_shift z s ≡ floor_shift z shift
+pub shift_is : (z : ℤ) (shift s : ℕ) → unsigned_abs z ≤ 2 ^ 53 → s ≡ min shift 63 → shift_down z s ≡ shift_down z shift
 shift_is z shift s h e = elim (cases_lt shift 63) [
-  | inl small ↦ let f : s ≡ shift = omega arith in ap (floor_shift z) f
-  | inr large ↦ let f : s ≡ 63 = omega arith in ap (floor_shift z) f ∙ shifted_out z shift h large
+  | inl small ↦ let f : s ≡ shift = omega arith in ap (shift_down z) f
+  | inr large ↦ let f : s ≡ 63 = omega arith in ap (shift_down z) f ∙ shifted_out z shift h large
 ]
 
 shift_small : (z : ℤ) (m : ℕ) → unsigned_abs (shr_z z m) ≤ unsigned_abs z
@@ -55,16 +55,12 @@ shift_small (negsuc a) m = omega (arith, div-le_self a m)
 
 -- as 64 bits do it
 pub shifted_down : (z r : ℤ) (shift s : ℕ) → FitsSigned w64 r → unsigned_abs z ≤ 2 ^ 53 → s ≡ min shift 63
-    → r ≡ clamp (2 ^ 32) (to_z w64 (of_z w64 (shr_z (to_z w64 (of_z w64 z)) (2 ^ s)))) → to_z w64 (of_z w64 r) ≡ clamp (2 ^ 32) (floor_shift z shift)
+    → r ≡ clamp (2 ^ 32) (to_z w64 (of_z w64 (shr_z (to_z w64 (of_z w64 z)) (2 ^ s)))) → to_z w64 (of_z w64 r) ≡ clamp (2 ^ 32) (shift_down z shift)
 shifted_down z r shift s fits small e h =
     let fz : FitsSigned w64 z = fits_signed_from_abs w64 z (omega arith) in
     let fs : FitsSigned w64 (shr_z z (2 ^ s)) = fits_signed_from_abs w64 (shr_z z (2 ^ s)) (omega (arith, shift_small z (2 ^ s))) in
     let g : r ≡ clamp (2 ^ 32) (shr_z z (2 ^ s)) = rw (to_z-of_z w64 z fz, to_z-of_z w64 (shr_z z (2 ^ s)) fs) at h in
     to_z-of_z w64 r fits ∙ g ∙ ap (clamp (2 ^ 32)) (shift_is z shift s small e)
-
-pub summed : (a b l r : ℤ) → FitsSigned w64 r → unsigned_abs a ≤ 2 ^ 32 → unsigned_abs b ≤ 2 ^ 32 → unsigned_abs l ≤ 2 ^ 32
-    → r ≡ clamp (2 ^ 32) (to_z w64 (of_z w64 (to_z w64 (of_z w64 (to_z w64 (of_z w64 a) +ℤ to_z w64 (of_z w64 b))) +ℤ to_z w64 (of_z w64 l)))) → to_z w64 (of_z w64 r) ≡ clamp (2 ^ 32) ((a +ℤ b) +ℤ l)
-summed a b l r fits sa sb sl h = omega (arith, ints, clamps)
 
 pub shifted_up : (z r q : ℤ) (shift s : ℕ) → FitsSigned w64 r → FitsSigned w64 q → unsigned_abs z ≤ 2 ^ 53 → s ≡ min shift 33
     → q ≡ saturate_signed w64 (to_z w64 (of_z w64 z) *ℤ to_z w64 (1 * 2 ^ s % 2 ^ 64)) → r ≡ clamp (2 ^ 32) (to_z w64 (of_z w64 q)) → to_z w64 (of_z w64 r) ≡ clamp (2 ^ 32) (z *ℤ pos (2 ^ shift))

@@ -7,7 +7,7 @@ use Rattle.model_fixed.specs.Fixed.{clamp, fix}
 use Rattle.model_setup.specs.Codebook.{Lookup}
 use Rattle.model_setup.specs.Vectors.{value_at, value_on, carried_on, multiplicand_at, vector_of}
 
-clamp_small : (z : ℤ) → unsigned_abs (clamp (2 ^ 32) z) ≤ 2 ^ 32
+pub clamp_small : (z : ℤ) → unsigned_abs (clamp (2 ^ 32) z) ≤ 2 ^ 32
 clamp_small z = omega (arith, ints, clamps)
 
 value_on_small : (lookup : Lookup) (last : ℤ) (multiplicand : ℕ) → unsigned_abs (value_on lookup last multiplicand) ≤ 2 ^ 32

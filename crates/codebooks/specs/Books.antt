@@ -1,11 +1,13 @@
 -- What the private parts of a book keep.
-use Rattle.std.specs.Prelude.{◌≡◌, ℕ, ◌^◌, ◌<◌, List, [], length, Option, Some, None, is_some, true}
+use Rattle.std.specs.Prelude.{◌≡◌, ℕ, ◌^◌, ◌<◌, List, [], length, Option, Some, None, is_some, true, ℤ}
 use Rattle.std.specs.List.{All, AllPairs}
 use Rattle.std.specs.List.Sorted.{IsPermutation}
+use Rattle.model_setup.specs.declared.book.TheConstants.{ENTRY_LIMIT}
 use Rattle.model_setup.specs.declared.book.Word.{Word}
 use Rattle.model_setup.specs.Codebook.{Lookup}
 use Rattle.model_setup.specs.Codewords.{book_words, IsPlaced, AreApart}
-use Rattle.codebooks.specs.Ranges.{IsRising}
+use Rattle.codebooks.specs.Looks.{IsRising}
+use Rattle.codebooks.specs.Layouts.{AreLaid}
 use Rattle.codebooks.specs.Tables.{IsWholeIfSome}
 
 abbrev pub words_or_none : Option (List Word) → List Word
@@ -21,8 +23,10 @@ pub record IsTree (lengths : List (Option ℕ)) (words : List Word) : Type 0 whe
   pub placed : All IsPlaced words
   pub rising : IsRising words
 
--- and the table has what the entries name
-pub record IsBook (dimensions : ℕ) (lengths : List (Option ℕ)) (words : List Word) (lookup : Option Lookup) : Type 0 where
-  pub few : length lengths < 2 ^ 24
+-- the table has what the entries name, and vectors that are laid out are those of the entries
+pub record IsBook (dimensions : ℕ) (lengths : List (Option ℕ)) (words : List Word)
+    (lookup : Option Lookup) (values : List ℤ) : Type 0 where
+  pub few : length lengths < ENTRY_LIMIT
   pub tree : IsTree lengths words
   pub whole : IsWholeIfSome dimensions (length lengths) lookup
+  pub laid : AreLaid dimensions (length lengths) lookup values

@@ -1,5 +1,9 @@
 pub mod Free
-pub mod Ranges
+pub mod Looks
+pub mod WordTables
 pub mod Tables
+pub mod Units
+pub mod Layouts
 pub mod Books
-pub mod Fronts
+pub mod FirstValues
+pub mod TreeLaws

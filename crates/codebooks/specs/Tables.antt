@@ -19,4 +19,5 @@ HasRoomFor Tessellation count dimensions entry = entry * dimensions + dimensions
 
 -- the multiplicands of this entry are there
 abbrev pub HasRoom : Lookup → ℕ → ℕ → Type 0
-HasRoom lookup dimensions entry = HasRoomFor lookup.kind (length lookup.multiplicands) dimensions entry
+HasRoom lookup dimensions entry =
+    HasRoomFor lookup.kind (length lookup.multiplicands) dimensions entry

@@ -1,23 +1,25 @@
 ghost use Rattle.std.specs.Prelude.{◌≡◌, ◌≤◌, ◌<◌, ◌^◌, ◌*◌, ◌-◌, ◌*ℤ◌, pos, unsigned_abs};
-ghost use Rattle.model_fixed.specs.Fixed.{clamp, fix, floor_shift, mantissa, exponent, is_below_zero, with_sign};
+ghost use Rattle.model_fixed.specs.Fixed.{IsWithinLimit, limited, fix, shift_down, mantissa, exponent, is_below_zero, with_sign};
 
-/// The greatest magnitude of a value, in units of 2^-16.
-pub const LIMIT: i64 = 1 << 32;
+use model_fixed::VALUE_LIMIT;
 
-/// The number times a power of 2, limited to 2^32.
+/// The greatest value, as a number with a sign.
+pub const LIMIT: i64 = VALUE_LIMIT as i64;
+
+/// The number times a power of 2, limited as a value is.
 fn scaled_up(number: i64, shift: u32) -> i64
     requires { unsigned_abs number ≤ 2 ^ 53 }
-    ensures { result ≡ clamp (2 ^ 32) (number *ℤ pos (2 ^ shift)) }
+    ensures { result ≡ limited (number *ℤ pos (2 ^ shift)) }
 {
     number
         .saturating_mul(1 << shift.min(33))
         .clamp(-LIMIT, LIMIT)
 }
 
-/// The number divided by a power of 2, rounded down and limited to 2^32.
+/// The number divided by a power of 2, rounded down and limited as a value is.
 fn scaled_down(number: i64, shift: u32) -> i64
     requires { unsigned_abs number ≤ 2 ^ 53 }
-    ensures { result ≡ clamp (2 ^ 32) (floor_shift number shift) }
+    ensures { result ≡ limited (shift_down number shift) }
 {
     (number >> shift.min(63)).clamp(-LIMIT, LIMIT)
 }
@@ -43,11 +45,11 @@ fn magnitude(factor: u32, packed: u32) -> u64
     u64::from(factor) * u64::from(packed % (1 << 21))
 }
 
-/// A whole number times a packed number, in units of 2^-16, rounded down and limited to 2^32.
+/// A whole number times a packed number, in units of 2^-16, rounded down and limited as a value is.
 #[tactic(auto, unfolding(model_fixed::specs::Fixed::fix))]
 pub fn fix(factor: u32, packed: u32) -> i64
     ensures value { result ≡ fix factor packed }
-    ensures small { unsigned_abs result ≤ 2 ^ 32 }
+    ensures small { IsWithinLimit result }
 {
     let number = with_sign(packed >> 31 == 1, magnitude(factor, packed));
     let exponent = (packed >> 21) % (1 << 10);

@@ -1,7 +1,8 @@
-ghost use Rattle.std.specs.Prelude.{◌≡◌, ◌≤◌, ◌<◌, ◌+◌, ◌-◌, ◌++◌, length, replicate, IfOk, IfErr, IfSome, OnOk, Some};
+ghost use Rattle.std.specs.Prelude.{◌≡◌, ◌≤◌, ◌<◌, ◌+◌, ◌-◌, ◌++◌, length, replicate, IfOk, IfSome, Ok, Some};
 ghost use Rattle.std.specs.List.{All};
 ghost use Rattle.model_bits.specs.Reading.{times};
-ghost use Rattle.model_setup.specs.BookReading.{ReadsAs, field, ilog, length_at, entry_length_at, runs_at, ordered_lengths_at, unordered_lengths_at};
+ghost use Rattle.sequence.specs.Answers.{Answers};
+ghost use Rattle.model_setup.specs.BookReading.{field, ilog, length_at, entry_length_at, runs_at, ordered_lengths_at, unordered_lengths_at};
 ghost use Rattle.codebooks.specs.Free.{IsLength, IsLengthIfUsed};
 
 use crate::fields::read_field;
@@ -9,18 +10,24 @@ use bit_reader::Bits;
 use model_setup::BookFault;
 use std::alloc::Global;
 
+/// Reads the length of a codeword.
 #[tactic(auto, unfolding(model_setup::specs::BookReading::length_at))]
 fn read_length(bits: &mut Bits) -> Result<Option<u8>, BookFault>
-    ensures read { ReadsAs (λ n. n) result bits.new (length_at bits.old.left) }
+    ensures read { Answers BookFault.Memory (λ n. (n, bits.new.left)) result
+        (length_at bits.old.left) }
+    ensures bytes { bits.new.total ≡ bits.old.total }
     ensures small { IfOk result IsLengthIfUsed }
 {
     let n = read_field(bits, 5)?;
     Ok(Some(n as u8 + 1))
 }
 
+/// Reads the length of an entry's codeword, behind the flag that a sparse book has for it.
 #[tactic(auto, unfolding(model_setup::specs::BookReading::entry_length_at))]
 fn read_entry_length(bits: &mut Bits, sparse: u32) -> Result<Option<u8>, BookFault>
-    ensures read { ReadsAs (λ n. n) result bits.new (entry_length_at sparse bits.old.left) }
+    ensures read { Answers BookFault.Memory (λ n. (n, bits.new.left)) result
+        (entry_length_at sparse bits.old.left) }
+    ensures bytes { bits.new.total ≡ bits.old.total }
     ensures small { IfOk result IsLengthIfUsed }
 {
     if sparse == 0 {
@@ -33,14 +40,17 @@ fn read_entry_length(bits: &mut Bits, sparse: u32) -> Result<Option<u8>, BookFau
     Ok(None)
 }
 
+/// Reads the length of each entry's codeword.
 fn read_entry_lengths(
     alloc: Global,
     bits: &mut Bits,
     entries: u32,
     sparse: u32,
 ) -> Result<Vec<Option<u8>>, BookFault>
-    ensures read { ReadsAs (λ v. v.items) result bits.new (times entries (entry_length_at sparse) bits.old.left) }
+    ensures read { Answers BookFault.Memory (λ v. (v.items, bits.new.left)) result
+        (times entries (entry_length_at sparse) bits.old.left) }
     ensures count { IfOk result (λ v. length v.items ≡ entries) }
+    ensures bytes { bits.new.total ≡ bits.old.total }
     ensures small { IfOk result (λ v. All IsLengthIfUsed v.items) }
 {
     let mut lengths = Vec::new(alloc);
@@ -51,14 +61,17 @@ fn read_entry_lengths(
     Ok(lengths)
 }
 
+/// Reads the lengths of a book that doesn't have them in order.
 #[tactic(auto, unfolding(model_setup::specs::BookReading::unordered_lengths_at))]
 pub fn read_unordered_lengths(
     alloc: Global,
     bits: &mut Bits,
     entries: u32,
 ) -> Result<Vec<Option<u8>>, BookFault>
-    ensures read { ReadsAs (λ v. v.items) result bits.new (unordered_lengths_at entries bits.old.left) }
+    ensures read { Answers BookFault.Memory (λ v. (v.items, bits.new.left)) result
+        (unordered_lengths_at entries bits.old.left) }
     ensures count { IfOk result (λ v. length v.items ≡ entries) }
+    ensures bytes { bits.new.total ≡ bits.old.total }
     ensures small { IfOk result (λ v. All IsLengthIfUsed v.items) }
 {
     let sparse = read_field(bits, 1)?;
@@ -67,14 +80,17 @@ pub fn read_unordered_lengths(
 
 /// How many of the remaining entries have the next length.
 fn read_run(bits: &mut Bits, remain: u32) -> Result<u32, BookFault>
-    ensures field { ReadsAs (λ n. n) result bits.new (field (ilog remain) bits.old.left) }
+    ensures field { Answers BookFault.Memory (λ n. (n, bits.new.left)) result
+        (field (ilog remain) bits.old.left) }
+    ensures bytes { bits.new.total ≡ bits.old.total }
 {
     read_field(bits, 32 - remain.leading_zeros())
 }
 
+/// Adds so many entries of one length.
 fn push_run(lengths: &mut Vec<Option<u8>>, len: u8, run: u32) -> Result<(), BookFault>
-    ensures ok { OnOk result (lengths.new.items ≡ lengths.old.items ++ replicate run (Some len)) }
-    ensures err { IfErr result (λ e. e ≡ BookFault.Memory) }
+    ensures { Answers BookFault.Memory (λ _. lengths.new.items) result
+        (Ok (lengths.old.items ++ replicate run (Some len))) }
 {
     for _ in 0..run {
         lengths.push(Some(len))?;
@@ -82,6 +98,7 @@ fn push_run(lengths: &mut Vec<Option<u8>>, len: u8, run: u32) -> Result<(), Book
     Ok(())
 }
 
+/// Reads the lengths in rising order, run by run, from this one on.
 fn read_runs(
     alloc: Global,
     bits: &mut Bits,
@@ -89,8 +106,10 @@ fn read_runs(
     entries: u32,
 ) -> Result<Vec<Option<u8>>, BookFault>
     requires { IsLength first }
-    ensures read { ReadsAs (λ v. v.items) result bits.new (runs_at (33 - first) first entries bits.old.left) }
+    ensures read { Answers BookFault.Memory (λ v. (v.items, bits.new.left)) result
+        (runs_at (33 - first) first entries bits.old.left) }
     ensures count { IfOk result (λ v. length v.items ≡ entries) }
+    ensures bytes { bits.new.total ≡ bits.old.total }
     ensures small { IfOk result (λ v. All IsLengthIfUsed v.items) }
 {
     let mut lengths = Vec::new(alloc);
@@ -111,14 +130,17 @@ fn read_runs(
     Ok(lengths)
 }
 
+/// Reads the lengths of a book that has them in rising order.
 #[tactic(auto, unfolding(model_setup::specs::BookReading::ordered_lengths_at))]
 pub fn read_ordered_lengths(
     alloc: Global,
     bits: &mut Bits,
     entries: u32,
 ) -> Result<Vec<Option<u8>>, BookFault>
-    ensures read { ReadsAs (λ v. v.items) result bits.new (ordered_lengths_at entries bits.old.left) }
+    ensures read { Answers BookFault.Memory (λ v. (v.items, bits.new.left)) result
+        (ordered_lengths_at entries bits.old.left) }
     ensures count { IfOk result (λ v. length v.items ≡ entries) }
+    ensures bytes { bits.new.total ≡ bits.old.total }
     ensures small { IfOk result (λ v. All IsLengthIfUsed v.items) }
 {
     let first = read_field(bits, 5)?;

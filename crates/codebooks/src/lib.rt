@@ -8,8 +8,10 @@ mod lengths;
 mod lookup;
 #[cfg(test)]
 mod tests;
-mod walk;
+mod tree_laws;
+mod word_table;
 mod words;
 
 pub use book::Book;
 pub use model_setup::{BookFault, Budget};
+pub use tree_laws::{entries_are_read, trees_are_full, words_are_separate};

@@ -1,34 +1,57 @@
-ghost use Rattle.std.specs.Prelude.{◌≡◌, ◌≤◌, ◌<◌, ◌^◌, ◌+◌, ◌*◌, length, IfOk, IsSome, Some, nat_le, unsigned_abs, List, take};
+ghost use Rattle.std.specs.Prelude.{◌≡◌, ◌≤◌, ◌<◌, ◌^◌, ◌+◌, ◌*◌, ◌/◌, ◌+ℤ◌, unsigned_abs, map, length, IfOk, IsSome, Some, nat_le, List, take};
 ghost use Rattle.std.specs.List.{All};
 ghost use Rattle.model_bits.specs.Reading.{times};
+ghost use Rattle.model_fixed.specs.Fixed.{IsWithinLimit, limited};
+ghost use Rattle.sequence.specs.Answers.{Answers};
 ghost use Rattle.model_setup.specs.declared.book.LookupKind.{LookupKind};
-ghost use Rattle.model_setup.specs.BookReading.{ReadsAs, field, table_at, lookup_at, multiplicands_of};
-ghost use Rattle.model_setup.specs.Vectors.{root_of, multiplicand_count, value_on, carried_on, vector_of};
+ghost use Rattle.model_setup.specs.BookReading.{field, table_at, lookup_at, multiplicands_of};
+ghost use Rattle.model_setup.specs.Vectors.{root_of, multiplicand_count, carried_on, vector_of};
+ghost use Rattle.codebooks.specs.Units.{unit_of, factor_of};
+ghost use Rattle.codebooks.specs.Layouts.{AreVectors};
 ghost use Rattle.codebooks.specs.Tables.{HasRoom, IsWholeTable, IsWholeIfSome};
 
 use crate::fields::read_field;
 use crate::fixed::{LIMIT, fix};
 use bit_reader::Bits;
-use model_setup::{BookFault, LookupKind};
-use std::alloc::Global;
+use model_setup::{BookFault, ENTRY_LIMIT, LookupKind};
+use std::alloc::{AllocError, Global};
 use std::marker::Model;
 
 /// How the vectors of a book's entries are made.
 #[derive(Drop)]
-pub struct Table {
+pub struct VectorTable {
     kind: LookupKind,
     minimum: u32,
     delta: u32,
     sequence: bool,
     multiplicands: Vec<u16>,
+    /// The multiplicands in units of 2^-16, each with the minimum added.
+    units: Vec<i64>,
+    /// What a number is multiplied by, in place of a division by how many multiplicands there are.
+    factor: u128,
 }
 
-impl Model for Table {
+impl Model for VectorTable {
     ghost use Rattle.model_setup.specs.Codebook.{Lookup};
+    ghost use Rattle.codebooks.specs.Units.{IsVectorTable};
 
     ghost Value = { Lookup };
 
-    ghost view = { λ a. record { kind = a.kind; minimum = a.minimum; delta = a.delta; sequence = a.sequence; multiplicands = a.multiplicands.items } };
+    ghost view = { λ a. record {
+      kind = a.kind;
+      minimum = a.minimum;
+      delta = a.delta;
+      sequence = a.sequence;
+      multiplicands = a.multiplicands.items;
+    } };
+
+    ghost invariant = { λ a. IsVectorTable (record {
+      kind = a.kind;
+      minimum = a.minimum;
+      delta = a.delta;
+      sequence = a.sequence;
+      multiplicands = a.multiplicands.items;
+    }) a.units.items a.factor };
 }
 
 /// Whether a power is no more than a number.
@@ -44,7 +67,7 @@ fn is_power_within(base: u32, exponent: u32, most: u32) -> bool
 /// The greatest number whose power is no more than the number of entries.
 fn root(entries: u32, dimensions: u32) -> u32
     requires some { 0 < dimensions }
-    requires few { entries < 2 ^ 24 }
+    requires few { entries < ENTRY_LIMIT }
     ensures { result ≡ root_of entries dimensions }
 {
     let mut root = 0;
@@ -57,7 +80,7 @@ fn root(entries: u32, dimensions: u32) -> u32
 /// How many multiplicands a table has.
 fn multiplicand_count(kind: LookupKind, dimensions: u32, entries: u32) -> u64
     requires some { 0 < dimensions }
-    requires few { entries < 2 ^ 24 }
+    requires few { entries < ENTRY_LIMIT }
     ensures { result ≡ multiplicand_count kind dimensions entries }
 {
     match kind {
@@ -66,6 +89,7 @@ fn multiplicand_count(kind: LookupKind, dimensions: u32, entries: u32) -> u64
     }
 }
 
+/// Reads so many multiplicands of so many bits.
 fn read_multiplicands(
     alloc: Global,
     bits: &mut Bits,
@@ -73,7 +97,9 @@ fn read_multiplicands(
     width: u32,
 ) -> Result<Vec<u16>, BookFault>
     requires { width ≤ 16 }
-    ensures read { ReadsAs (λ v. v.items) result bits.new (times count (field width) bits.old.left) }
+    ensures read { Answers BookFault.Memory (λ v. (v.items, bits.new.left)) result
+        (times count (field width) bits.old.left) }
+    ensures bytes { bits.new.total ≡ bits.old.total }
     ensures count { IfOk result (λ v. length v.items ≡ count) }
 {
     let mut multiplicands = Vec::new(alloc);
@@ -84,6 +110,59 @@ fn read_multiplicands(
     Ok(multiplicands)
 }
 
+/// A multiplicand in units of 2^-16, with the minimum added.
+fn unit_of(multiplicand: u16, minimum: u32, delta: u32) -> i64
+    ensures { result ≡ unit_of minimum delta multiplicand }
+{
+    fix(u32::from(multiplicand), delta) + fix(1, minimum)
+}
+
+/// The multiplicands in units of 2^-16, each with the minimum added.
+fn units_of(
+    alloc: Global,
+    multiplicands: &[u16],
+    minimum: u32,
+    delta: u32,
+) -> Result<Vec<i64>, AllocError>
+    ensures { IfOk result (λ v. v.items ≡ map (unit_of minimum delta) multiplicands.now) }
+{
+    let mut units = Vec::new(alloc);
+    for multiplicand in multiplicands {
+        units.push(unit_of(*multiplicand, minimum, delta))?;
+    }
+    Ok(units)
+}
+
+/// What a number is multiplied by, in place of a division by this one.
+fn factor_of(divisor: u32) -> u128
+    ensures { 0 < divisor → result ≡ factor_of divisor }
+{
+    match (1u128 << 64).checked_div(u128::from(divisor)) {
+        Some(quotient) => quotient + 1,
+        None => 0,
+    }
+}
+
+/// A number divided by another, by the factor that stands for it.
+fn quotient(number: u32, divisor: u32, factor: u128) -> u32
+    requires some { 0 < divisor }
+    requires factor { factor ≡ factor_of divisor }
+    ensures { result ≡ number / divisor }
+{
+    ((u128::from(number) * factor) >> 64) as u32
+}
+
+/// A value: a multiplicand in units, and what it is added to.
+fn value_of(unit: i64, last: i64) -> i64
+    requires unit { unsigned_abs unit ≤ 2 ^ 33 }
+    requires last { IsWithinLimit last }
+    ensures value { result ≡ limited (unit +ℤ last) }
+    ensures small { IsWithinLimit result }
+{
+    (unit + last).clamp(-LIMIT, LIMIT)
+}
+
+/// Reads a table of this kind, of at most so many multiplicands.
 #[tactic(auto, unfolding(model_setup::specs::BookReading::table_at))]
 fn read_table(
     alloc: Global,
@@ -92,10 +171,12 @@ fn read_table(
     dimensions: u32,
     entries: u32,
     most: u32,
-) -> Result<Table, BookFault>
-    requires { entries < 2 ^ 24 }
+) -> Result<VectorTable, BookFault>
+    requires { entries < ENTRY_LIMIT }
     ensures within { IfOk result (λ t. length t.multiplicands ≤ most) }
-    ensures read { ReadsAs (λ t. Some t) result bits.new (table_at kind dimensions entries most bits.old.left) }
+    ensures read { Answers BookFault.Memory (λ t. (Some t, bits.new.left)) result
+        (table_at kind dimensions entries most bits.old.left) }
+    ensures bytes { bits.new.total ≡ bits.old.total }
     ensures whole { IfOk result (λ t. IsWholeTable dimensions entries t) }
 {
     if dimensions == 0 {
@@ -110,12 +191,16 @@ fn read_table(
         return Err(BookFault::Limit);
     }
     let multiplicands = read_multiplicands(alloc, bits, count as u32, value_bits + 1)?;
-    Ok(Table {
+    let units = units_of(alloc, &multiplicands, minimum, delta)?;
+    let factor = factor_of(count as u32);
+    Ok(VectorTable {
         kind,
         minimum,
         delta,
         sequence: sequence == 1,
         multiplicands,
+        units,
+        factor,
     })
 }
 
@@ -127,10 +212,12 @@ pub fn read_lookup(
     dimensions: u32,
     entries: u32,
     most: u32,
-) -> Result<Option<Table>, BookFault>
-    requires { entries < 2 ^ 24 }
+) -> Result<Option<VectorTable>, BookFault>
+    requires { entries < ENTRY_LIMIT }
     ensures within { IfOk result (λ t. multiplicands_of t ≤ most) }
-    ensures read { ReadsAs (λ t. t) result bits.new (lookup_at dimensions entries most bits.old.left) }
+    ensures read { Answers BookFault.Memory (λ t. (t, bits.new.left)) result
+        (lookup_at dimensions entries most bits.old.left) }
+    ensures bytes { bits.new.total ≡ bits.old.total }
     ensures whole { IfOk result (λ t. IsWholeIfSome dimensions entries t) }
 {
     let kind = read_field(bits, 4)?;
@@ -144,7 +231,7 @@ pub fn read_lookup(
     Ok(Some(table))
 }
 
-impl Table {
+impl VectorTable {
     /// How many multiplicands the table holds.
     pub fn len(&self) -> usize
         ensures { result ≡ length self.now.multiplicands }
@@ -152,22 +239,11 @@ impl Table {
         self.multiplicands.len()
     }
 
-    /// A value, made of a multiplicand and what it is added to.
-    fn value(&self, multiplicand: u16, last: i64) -> i64
-        requires { unsigned_abs last ≤ 2 ^ 32 }
-        ensures value { result ≡ value_on self.now last multiplicand }
-        ensures small { unsigned_abs result ≤ 2 ^ 32 }
-    {
-        let own = fix(u32::from(multiplicand), self.delta);
-        let least = fix(1, self.minimum);
-        (own + least + last).clamp(-LIMIT, LIMIT)
-    }
-
     /// What the next value of a vector is added to.
     fn carried(&self, value: i64) -> i64
-        requires { unsigned_abs value ≤ 2 ^ 32 }
+        requires { IsWithinLimit value }
         ensures value { result ≡ carried_on self.now value }
-        ensures small { unsigned_abs result ≤ 2 ^ 32 }
+        ensures small { IsWithinLimit result }
     {
         if self.sequence { value } else { 0 }
     }
@@ -179,15 +255,16 @@ impl Table {
         requires some { 0 < length self.now.multiplicands }
         ensures { out.new ≡ vector_of (length out.old) self.now entry }
     {
-        let multiplicands = self.multiplicands.as_slice();
-        let base = multiplicands.len();
-        let mut rest = entry as usize;
+        let units = self.units.as_slice();
+        let base = units.len() as u32;
+        let mut rest = entry;
         let mut last = 0;
         for i in 0..out.len() {
-            let value = self.value(multiplicands[rest % base], last);
+            let others = quotient(rest, base, self.factor);
+            let value = value_of(units[(rest - others * base) as usize], last);
             out[i] = value;
             last = self.carried(value);
-            rest /= base;
+            rest = others;
         }
     }
 
@@ -198,11 +275,11 @@ impl Table {
         requires front { length out.old ≤ dimensions }
         ensures { out.new ≡ take (length out.old) (vector_of dimensions self.now entry) }
     {
-        let multiplicands = self.multiplicands.as_slice();
+        let units = self.units.as_slice();
         let first = entry as usize * dimensions;
         let mut last = 0;
         for i in 0..out.len() {
-            let value = self.value(multiplicands[first + i], last);
+            let value = value_of(units[first + i], last);
             out[i] = value;
             last = self.carried(value);
         }
@@ -213,11 +290,31 @@ impl Table {
         requires room { HasRoom self.now dimensions entry }
         requires front { length out.old ≤ dimensions }
         ensures vector { out.new ≡ take (length out.old) (vector_of dimensions self.now entry) }
-        ensures small { All (λ v. unsigned_abs v ≤ 2 ^ 32) out.new }
+        ensures small { All IsWithinLimit out.new }
     {
         match self.kind {
             LookupKind::Lattice => self.fill_by_digits(entry, out),
             LookupKind::Tessellation => self.fill_by_own(entry, dimensions, out),
         }
+    }
+
+    /// The vectors of all entries, one after the other.
+    pub fn vectors(
+        &self,
+        alloc: Global,
+        dimensions: usize,
+        entries: u32,
+    ) -> Result<Vec<i64>, AllocError>
+        requires { IsWholeTable dimensions entries self.now }
+        ensures { IfOk result (λ v. AreVectors dimensions entries self.now v.items) }
+    {
+        let mut vectors = Vec::new(alloc);
+        let mut buffer = vec![in alloc; 0i64; dimensions]?;
+        let vector = buffer.as_mut_slice();
+        for entry in 0..entries {
+            self.fill(entry, dimensions, vector);
+            vectors.extend_from_slice(vector)?;
+        }
+        Ok(vectors)
     }
 }

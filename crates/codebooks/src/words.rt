@@ -1,15 +1,17 @@
 ghost use Rattle.std.specs.Prelude.{◌≡◌, ◌≤◌, ◌<◌, ◌^◌, ◌+◌, ◌-◌, ℕ, length, slice_index_or, List, Option, Some, None, IfSome, IfNone, IfOk, OnOk, IfErr, ◌++◌, ◌∷◌, []};
 ghost use Rattle.std.specs.List.{All, AllPairs};
+ghost use Rattle.std.specs.Option.{ok_or};
+ghost use Rattle.sequence.specs.Answers.{Answers};
 ghost use Rattle.model_setup.specs.Codewords.{size_of, is_right, filled, words_behind, book_words, IsPlaced, AreApart};
-ghost use Rattle.codebooks.specs.Books.{IsTree};
-ghost use Rattle.codebooks.specs.Free.{FreeAt, Claim, Spaces, Refuses, WordsAs, IsLength, IsLengthIfUsed};
+ghost use Rattle.codebooks.specs.Books.{IsTree, words_or_none};
+ghost use Rattle.codebooks.specs.Free.{FreeAt, Claim, Spaces, IsLength, IsLengthIfUsed};
 
-use model_setup::{BookFault, Word};
+use model_setup::{BookFault, ENTRY_LIMIT, Word};
 use std::alloc::Global;
 
 /// How many of the numbers below 2^32 belong to a codeword of this length.
 #[tactic(auto, unfolding(model_setup::specs::Codewords::size_of))]
-fn size_of(len: u32) -> u64
+pub fn size_of(len: u32) -> u64
     ensures { result ≡ size_of len }
 {
     1 << (32 - len.min(32))
@@ -21,7 +23,8 @@ fn nearest(free: &[Option<u32>], len: usize) -> Option<(usize, u32)>
     ensures none { IfNone result ((z : ℕ) → z ≤ len → slice_index_or free.now z None ≡ None) }
     ensures near { IfSome result (λ p. p.0 ≤ len) }
     ensures was { IfSome result (λ p. FreeAt free.now p.0 p.1) }
-    ensures between { IfSome result (λ p. (y : ℕ) → p.0 < y → y ≤ len → slice_index_or free.now y None ≡ None) }
+    ensures between { IfSome result (λ p. (y : ℕ) → p.0 < y → y ≤ len
+        → slice_index_or free.now y None ≡ None) }
 {
     let mut count = len + 1;
     while count > 0 {
@@ -42,8 +45,10 @@ fn leave(free: &mut [Option<u32>], level: usize, len: usize, start: u32)
     requires near { level ≤ len }
     requires within { start + size_of level ≤ 2 ^ 32 }
     ensures left { (y : ℕ) → level < y → y ≤ len → FreeAt free.new y (start + size_of y) }
-    ensures larger { (y : ℕ) → y ≤ level → slice_index_or free.new y None ≡ slice_index_or free.old y None }
-    ensures smaller { (y : ℕ) → len < y → slice_index_or free.new y None ≡ slice_index_or free.old y None }
+    ensures larger { (y : ℕ) → y ≤ level
+        → slice_index_or free.new y None ≡ slice_index_or free.old y None }
+    ensures smaller { (y : ℕ) → len < y
+        → slice_index_or free.new y None ≡ slice_index_or free.old y None }
 {
     for y in level + 1..len + 1 {
         free[y] = Some(start + size_of(y as u32) as u32);
@@ -75,11 +80,11 @@ fn add_word(
     requires small { IsLength len }
     requires spaces { Spaces words.old.items free.old }
     requires below { All (λ w. w.entry < entry) words.old.items }
-    ensures next { OnOk result ((more : List (Option ℕ)) → words_behind words.old.items entry (Some len ∷ more) ≡ words_behind words.new.items (entry + 1) more) }
+    ensures added { Answers BookFault.Memory (λ _. words.new.items) result
+        (ok_or (words_behind words.old.items entry (Some len ∷ [])) BookFault.Tree) }
     ensures spaces { OnOk result (Spaces words.new.items free.new) }
     ensures below { OnOk result (All (λ w. w.entry < entry + 1) words.new.items) }
     ensures count { OnOk result (length words.new.items ≡ length words.old.items + 1) }
-    ensures refused { IfErr result (λ e. Refuses e ((more : List (Option ℕ)) → words_behind words.old.items entry (Some len ∷ more) ≡ None)) }
 {
     let Some(start) = claim(free, len) else {
         return Err(BookFault::Tree);
@@ -100,11 +105,11 @@ fn add_entry(
     requires small { IsLengthIfUsed entry_len }
     requires spaces { Spaces words.old.items free.old }
     requires below { All (λ w. w.entry < entry) words.old.items }
-    ensures next { OnOk result ((more : List (Option ℕ)) → words_behind words.old.items entry (entry_len ∷ more) ≡ words_behind words.new.items (entry + 1) more) }
+    ensures added { Answers BookFault.Memory (λ _. words.new.items) result
+        (ok_or (words_behind words.old.items entry (entry_len ∷ [])) BookFault.Tree) }
     ensures spaces { OnOk result (Spaces words.new.items free.new) }
     ensures below { OnOk result (All (λ w. w.entry < entry + 1) words.new.items) }
     ensures count { OnOk result (length words.new.items ≤ length words.old.items + 1) }
-    ensures refused { IfErr result (λ e. Refuses e ((more : List (Option ℕ)) → words_behind words.old.items entry (entry_len ∷ more) ≡ None)) }
 {
     if let Some(len) = entry_len {
         add_word(free, words, entry, len)?;
@@ -114,9 +119,10 @@ fn add_entry(
 
 /// Each used entry's word, in order.
 fn all_words(alloc: Global, lengths: &[Option<u8>]) -> Result<Vec<Word>, BookFault>
-    requires count { length lengths.now < 2 ^ 24 }
+    requires count { length lengths.now < ENTRY_LIMIT }
     requires small { All IsLengthIfUsed lengths.now }
-    ensures words { WordsAs (λ v. v.items) result (words_behind [] 0 lengths.now) }
+    ensures words { Answers BookFault.Memory (λ v. v.items) result
+        (ok_or (words_behind [] 0 lengths.now) BookFault.Tree) }
     ensures count { IfOk result (λ v. length v.items ≤ length lengths.now) }
     ensures below { IfOk result (λ v. All (λ w. w.entry < length lengths.now) v.items) }
     ensures placed { IfOk result (λ v. All IsPlaced v.items) }
@@ -134,7 +140,7 @@ fn all_words(alloc: Global, lengths: &[Option<u8>]) -> Result<Vec<Word>, BookFau
 /// How many numbers belong to one of the words.
 #[tactic(auto, unfolding(model_setup::specs::Codewords::filled))]
 fn filled(words: &[Word]) -> u64
-    requires { length words.now < 2 ^ 24 }
+    requires { length words.now < ENTRY_LIMIT }
     ensures { result ≡ filled words.now }
 {
     let mut sum = 0;
@@ -146,7 +152,7 @@ fn filled(words: &[Word]) -> u64
 
 /// Whether a book may have these words.
 fn is_right(words: &[Word]) -> bool
-    requires { length words.now < 2 ^ 24 }
+    requires { length words.now < ENTRY_LIMIT }
     ensures { result ≡ is_right words.now }
 {
     match words {
@@ -159,9 +165,10 @@ fn is_right(words: &[Word]) -> bool
 /// The words of a book whose entries have these lengths, in the entries' order.
 #[tactic(auto, unfolding(model_setup::specs::Codewords::book_words))]
 fn book_words(alloc: Global, lengths: &[Option<u8>]) -> Result<Vec<Word>, BookFault>
-    requires count { length lengths.now < 2 ^ 24 }
+    requires count { length lengths.now < ENTRY_LIMIT }
     requires small { All IsLengthIfUsed lengths.now }
-    ensures words { WordsAs (λ v. v.items) result (book_words lengths.now) }
+    ensures words { Answers BookFault.Memory (λ v. v.items) result
+        (ok_or (book_words lengths.now) BookFault.Tree) }
     ensures below { IfOk result (λ v. All (λ w. w.entry < length lengths.now) v.items) }
     ensures placed { IfOk result (λ v. All IsPlaced v.items) }
     ensures apart { IfOk result (λ v. AllPairs AreApart v.items) }
@@ -176,10 +183,11 @@ fn book_words(alloc: Global, lengths: &[Option<u8>]) -> Result<Vec<Word>, BookFa
 
 /// The words of a book whose entries have these lengths, in order of their intervals.
 pub fn codewords(alloc: Global, lengths: &[Option<u8>]) -> Result<Vec<Word>, BookFault>
-    requires count { length lengths.now < 2 ^ 24 }
+    requires count { length lengths.now < ENTRY_LIMIT }
     requires small { All IsLengthIfUsed lengths.now }
     ensures tree { IfOk result (λ v. IsTree lengths.now v.items) }
-    ensures refused { IfErr result (λ e. Refuses e (book_words lengths.now ≡ None)) }
+    ensures words { Answers BookFault.Memory (λ _. words_or_none (book_words lengths.now)) result
+        (ok_or (book_words lengths.now) BookFault.Tree) }
 {
     let mut words = book_words(alloc, lengths)?;
     words.sort_unstable_by_key(|w| w.start);

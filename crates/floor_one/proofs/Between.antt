@@ -8,7 +8,16 @@ use Rattle.model_setup.specs.FloorSetup.{ArePoints}
 use Rattle.model_setup.specs.FloorCurve.{nearest_below, nearest_above, low_neighbour, high_neighbour, point_numbers}
 use Rattle.floor_one.specs.declared.points.Neighbours.{Neighbours}
 use Rattle.floor_one.specs.Points.{neighbours_of}
-use Rattle.floor_one.specs.Curves.{IsBelow, IsAbove}
+
+-- a point before this one, at a bin below its own
+pub record IsBelow (x_values : List ℕ) (i n : ℕ) : Type 0 where
+  pub before : n < i
+  pub below : get_or x_values n 0 < get_or x_values i 0
+
+-- a point before this one, at a bin above its own
+pub record IsAbove (x_values : List ℕ) (i n : ℕ) : Type 0 where
+  pub before : n < i
+  pub above : get_or x_values i 0 < get_or x_values n 0
 
 abbrev neighbours_at : List ℕ → ℕ → Neighbours
 neighbours_at x_values i = record { low = low_neighbour x_values i; high = high_neighbour x_values i }

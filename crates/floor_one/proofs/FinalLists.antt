@@ -11,7 +11,7 @@ use Rattle.std.proofs.Math.Bool.{or-false}
 use Rattle.std.proofs.Math.ListN.{get_or-map}
 use Rattle.model_setup.specs.declared.floor.Final.{Final}
 use Rattle.model_setup.specs.FloorSetup.{FloorSetup, ArePoints}
-use Rattle.model_setup.specs.FloorCurve.{values_up_to, with_next, value_of, predicted, final_value, is_flagged, is_moved, bends, low_neighbour, high_neighbour, finals_up_to, final_of, no_final, AreFinals}
+use Rattle.model_setup.specs.FloorCurve.{values_up_to, with_next, point_value, predicted, final_value, is_flagged, is_moved, bends, low_neighbour, high_neighbour, finals_up_to, final_of, no_final, AreFinals}
 use Rattle.floor_one.specs.Curves.{height_between_neighbours}
 use Rattle.floor_one.proofs.Between.{low_is_below, high_is_above}
 
@@ -71,7 +71,7 @@ flagged_last x_values y_values count points two within =
     let first : nat_lt count 2 ≡ false = le-ltb count 2 two in
     ap (λ b. (nat_lt count 2 || is_moved y_values count) || b) (list_any_none p numbers none) ∙ or-false (nat_lt count 2 || is_moved y_values count) ∙ ap (λ b. b || is_moved y_values count) first
 
-value_in : (finals : List Final) (i : ℕ) → value_of (map (λ (f : Final). f.value) finals) i ≡ (final_of finals i).value
+value_in : (finals : List Final) (i : ℕ) → point_value (map (λ (f : Final). f.value) finals) i ≡ (final_of finals i).value
 value_in finals i = get_or-map (λ (f : Final). f.value) finals i no_final
 
 predicted_is : (x_values : List ℕ) (finals : List Final) (i : ℕ) → predicted x_values (map (λ (f : Final). f.value) finals) i ≡ height_between_neighbours x_values finals i (low_neighbour x_values i) (high_neighbour x_values i)
@@ -117,8 +117,8 @@ pub finals_are : (range : ℕ) (x_values y_values : List ℕ) (finals : List Fin
     → ((k : ℕ) → k < count → (final_of finals k).flagged ≡ is_flagged x_values y_values count k) → finals ≡ finals_up_to range x_values y_values count
 unfolding finals_up_to
 finals_are range x_values y_values finals count counted values flags =
-    fill_by_all (λ i. final (value_of (values_up_to range x_values y_values count) i) (is_flagged x_values y_values count i)) finals count no_final counted
-    (λ k h. final_is (final_of finals k) (value_of (values_up_to range x_values y_values count) k) (is_flagged x_values y_values count k) (sym (value_in finals k) ∙ ap (λ vs. value_of vs k) values) (flags k h))
+    fill_by_all (λ i. final (point_value (values_up_to range x_values y_values count) i) (is_flagged x_values y_values count i)) finals count no_final counted
+    (λ k h. final_is (final_of finals k) (point_value (values_up_to range x_values y_values count) k) (is_flagged x_values y_values count k) (sym (value_in finals k) ∙ ap (λ vs. point_value vs k) values) (flags k h))
 
 -- ---- the first two
 
@@ -153,13 +153,13 @@ module _ (range : ℕ) (x_values y_values : List ℕ) (a b : Final) (two : 2 ≤
 first_two_are_ends : (range : ℕ) (x_values y_values : List ℕ) (count : ℕ) → 2 ≤ count → All (λ (f : Final). f.flagged ≡ true) (take 2 (finals_up_to range x_values y_values count))
 unfolding finals_up_to is_flagged
 first_two_are_ends range x_values y_values count two =
-    let at : ℕ → Final = λ i. final (value_of (values_up_to range x_values y_values count) i) (is_flagged x_values y_values count i) in
+    let at : ℕ → Final = λ i. final (point_value (values_up_to range x_values y_values count) i) (is_flagged x_values y_values count i) in
     let P : Final → Type 0 = λ (f : Final). f.flagged ≡ true in
     rw (take-map-range_with_len at 0 count 2 two) (All-cons P (at 0) (at 1 ∷ []) refl (All-cons P (at 1) [] refl (All-nil P)))
 
 as_many : (range : ℕ) (x_values y_values : List ℕ) (count : ℕ) → length (finals_up_to range x_values y_values count) ≡ count
 unfolding finals_up_to
-as_many range x_values y_values count = length-map-range_with_len (λ i. final (value_of (values_up_to range x_values y_values count) i) (is_flagged x_values y_values count i)) 0 count
+as_many range x_values y_values count = length-map-range_with_len (λ i. final (point_value (values_up_to range x_values y_values count) i) (is_flagged x_values y_values count i)) 0 count
 
 pub make_a_curve : (floor : FloorSetup) (range : ℕ) (x_values y_values : List ℕ) (finals : List Final) → 2 ≤ length x_values → x_values ≡ floor.x_values
     → finals ≡ finals_up_to range x_values y_values (length x_values) → All (λ (f : Final). unsigned_abs f.value ≤ 2 ^ 24) finals → AreFinals floor finals

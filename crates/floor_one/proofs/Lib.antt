@@ -9,6 +9,7 @@ pub mod Meets
 pub mod Between
 pub mod FinalLists
 pub mod Flags
+pub mod NextPoint
 pub mod Heights
 pub mod DigitReads
 pub mod Partitions

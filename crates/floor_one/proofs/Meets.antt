@@ -5,7 +5,7 @@ use Rattle.std.proofs.lemmas.Bool.{cases_lt}
 use Rattle.std.proofs.lemmas.Int.{ints}
 use Rattle.model_setup.specs.declared.floor.Final.{Final}
 use Rattle.model_setup.specs.FloorSetup.{FloorSetup}
-use Rattle.model_setup.specs.FloorCurve.{render_point, final_of, height_of, height_between, limited, nearest_below, nearest_above, curve_at}
+use Rattle.model_setup.specs.FloorCurve.{render_point, final_of, height_of, height_between, decibel_number, nearest_below, nearest_above, curve_at}
 use Rattle.floor_one.specs.CurveLaws.{CurveMeetsPoints}
 use Rattle.floor_one.proofs.Nearest.{nearest_below_is}
 
@@ -33,4 +33,4 @@ meets floor finals i points lt flagged =
     let below : nearest_below floor.x_values counts (x + 1) ≡ Some i =
     nearest_below_is floor.x_values counts (x + 1) i points.apart lt flagged (omega arith)
     (λ m l c. elim (cases_lt x (get_or floor.x_values m 0)) [ inl more ↦ inr (omega arith) | inr less ↦ inl less ]) in
-    ap limited (ap (λ low. height_between floor finals x low (nearest_above floor.x_values counts x)) below ∙ behind_none floor finals i (nearest_above floor.x_values counts x))
+    ap decibel_number (ap (λ low. height_between floor finals x low (nearest_above floor.x_values counts x)) below ∙ behind_none floor finals i (nearest_above floor.x_values counts x))

@@ -10,51 +10,51 @@ use Rattle.model_bits.specs.Reading.{each, then_read, give, with_front}
 use Rattle.model_setup.specs.Codebook.{Codebook}
 use Rattle.model_setup.specs.FloorSetup.{FloorClass, FloorSetup, dimensions_of}
 use Rattle.model_setup.specs.FloorPacket.{partition_values_at, class_of, no_class}
-use Rattle.floor_one.specs.Curves.{joined}
+use Rattle.floor_one.specs.Curves.{flattened}
 
 same_read : {E A : Type 0} (reading : Result (List A × List Bool) E) (r s : List A × List Bool) → reading ≡ Ok r → reading ≡ Ok s → r ≡ s
 same_read reading r s e f = cc
 
-regroup : {E A : Type 0} (front items : List A) (reading : Result (List (List A) × List Bool) E) → with_front front (joined (then_read reading (λ others. give (items ∷ others)))) ≡ with_front (front ++ items) (joined reading)
+regroup : {E A : Type 0} (front items : List A) (reading : Result (List (List A) × List Bool) E) → with_front front (flattened (then_read reading (λ others. give (items ∷ others)))) ≡ with_front (front ++ items) (flattened reading)
 regroup front items (Ok read) = ap (λ ns. Ok (ns, read.1)) (sym (append_assoc front items (flat_map (λ ys. ys) read.0)))
 regroup front items (Err e) = refl
 
 module _ {E X A : Type 0} (m : X → List Bool → Result (List A × List Bool) E) (front : List A) (items : List X) where
   one_more : (more : List A) (after : List Bool) (reading : Result (List A × List Bool) E) → with_front front reading ≡ Ok (more, after)
-      → with_front front (joined (then_read reading (λ y left. then_read (each m items left) (λ ys. give (y ∷ ys))))) ≡ with_front more (joined (each m items after))
+      → with_front front (flattened (then_read reading (λ y left. then_read (each m items left) (λ ys. give (y ∷ ys))))) ≡ with_front more (flattened (each m items after))
   one_more more after (Ok read) h =
       let same = same_read (with_front front (Ok read)) (front ++ read.0, read.1) (more, after) refl h in
       let e : front ++ read.0 ≡ more = ap (λ r. r.0) same in
       let f : read.1 ≡ after = ap (λ r. r.1) same in
-      regroup front read.0 (each m items read.1) ∙ ap (λ left. with_front (front ++ read.0) (joined (each m items left))) f ∙ ap (λ ns. with_front ns (joined (each m items after))) e
+      regroup front read.0 (each m items read.1) ∙ ap (λ left. with_front (front ++ read.0) (flattened (each m items left))) f ∙ ap (λ ns. with_front ns (flattened (each m items after))) e
   one_more more after (Err e) h = absurd (cc)
 
 module _ {E X A : Type 0} (m : X → List Bool → Result (List A × List Bool) E) (front : List A) (items : List X) (i : ℕ) (d : X) (left : List Bool) (total : Result (List A × List Bool) E)
-    (so_far : with_front front (joined (each m (drop i items) left)) ≡ total) where
-  pub joined_goes_on : (more : List A) (after : List Bool) → i < length items → with_front front (m (get_or items i d) left) ≡ Ok (more, after) → with_front more (joined (each m (drop (i + 1) items) after)) ≡ total
+    (so_far : with_front front (flattened (each m (drop i items) left)) ≡ total) where
+  pub joined_goes_on : (more : List A) (after : List Bool) → i < length items → with_front front (m (get_or items i d) left) ≡ Ok (more, after) → with_front more (flattened (each m (drop (i + 1) items) after)) ≡ total
   joined_goes_on more after lt h =
       let k : drop i items ≡ get_or items i d ∷ drop (suc i) items = drop-cons items i d lt in
-      let one : with_front front (joined (each m (drop i items) left)) ≡ with_front more (joined (each m (drop (suc i) items) after)) = rw k (one_more m front (drop (suc i) items) more after (m (get_or items i d) left) h) in
+      let one : with_front front (flattened (each m (drop i items) left)) ≡ with_front more (flattened (each m (drop (suc i) items) after)) = rw k (one_more m front (drop (suc i) items) more after (m (get_or items i d) left) h) in
       rw add-one (sym one ∙ so_far)
 
   pub joined_fails : (e : E) → i < length items → m (get_or items i d) left ≡ Err e → total ≡ Err e
   joined_fails e lt h =
       let k : drop i items ≡ get_or items i d ∷ drop (suc i) items = drop-cons items i d lt in
-      let one : with_front front (joined (each m (drop i items) left)) ≡ Err e = rw (k, h) refl in
+      let one : with_front front (flattened (each m (drop i items) left)) ≡ Err e = rw (k, h) refl in
       sym so_far ∙ one
 
   pub joined_ends : length items ≤ i → total ≡ Ok (front, left)
   joined_ends le =
       let k : drop i items ≡ [] = drop_all i items le in
-      let one : with_front front (joined (each m (drop i items) left)) ≡ Ok (front, left) = rw k (ap (λ ns. Ok (ns, left)) (append-nil front)) in
+      let one : with_front front (flattened (each m (drop i items) left)) ≡ Ok (front, left) = rw k (ap (λ ns. Ok (ns, left)) (append-nil front)) in
       sym so_far ∙ one
 
-pub joined_front_fails : {E A : Type 0} (front : List A) (reading : Result (List (List A) × List Bool) E) (e : E) → with_front front (joined reading) ≡ Err e → reading ≡ Err e
+pub joined_front_fails : {E A : Type 0} (front : List A) (reading : Result (List (List A) × List Bool) E) (e : E) → with_front front (flattened reading) ≡ Err e → reading ≡ Err e
 joined_front_fails front (Ok read) e h = absurd (cc)
 joined_front_fails front (Err f) e h = cc
 
 -- the values of all partitions behind the first two
-pub behind_two : (first second : ℕ) (reading : Result (List (List ℕ) × List Bool) (Unit {0})) → then_read reading (λ others. give (first ∷ second ∷ flat_map (λ values. values) others)) ≡ with_front (first ∷ second ∷ []) (joined reading)
+pub behind_two : (first second : ℕ) (reading : Result (List (List ℕ) × List Bool) (Unit {0})) → then_read reading (λ others. give (first ∷ second ∷ flat_map (λ values. values) others)) ≡ with_front (first ∷ second ∷ []) (flattened reading)
 behind_two first second (Ok read) = refl
 behind_two first second (Err e) = refl
 
@@ -87,9 +87,9 @@ module _ (floor : FloorSetup) (numbers : List ℕ) (classes : List FloorClass) (
       ∙ ap (λ o. option_map_or (λ (c : FloorClass). c.dimensions) o 0 + sum_by (dimensions_of floor.classes) (drop (i + 1) floor.partitions)) class_at
 
   module _ (books : List Codebook) (left0 left : List Bool) (front0 front : List ℕ)
-      (so_far : with_front front (joined (each (partition_reading books floor) (drop i floor.partitions) left)) ≡ with_front front0 (joined (each (partition_reading books floor) floor.partitions left0))) where
+      (so_far : with_front front (flattened (each (partition_reading books floor) (drop i floor.partitions) left)) ≡ with_front front0 (flattened (each (partition_reading books floor) floor.partitions left0))) where
     pub partition_read : (more : List ℕ) (after : List Bool) → with_front front (partition_values_at books class left) ≡ Ok (more, after)
-        → with_front more (joined (each (partition_reading books floor) (drop (i + 1) floor.partitions) after)) ≡ with_front front0 (joined (each (partition_reading books floor) floor.partitions left0))
+        → with_front more (flattened (each (partition_reading books floor) (drop (i + 1) floor.partitions) after)) ≡ with_front front0 (flattened (each (partition_reading books floor) floor.partitions left0))
     partition_read more after h =
         joined_goes_on (partition_reading books floor) front floor.partitions i 0 left _ so_far more after within (ap (λ k. with_front front (partition_values_at books k left)) class_here ∙ h)
 

@@ -1,6 +1,6 @@
 ghost use Rattle.std.specs.Prelude.{◌≡◌, ◌≤◌, ◌<◌, length, IfOk, IfSome, is_some, nat_lt};
 ghost use Rattle.std.specs.List.{All};
-ghost use Rattle.model_bits.specs.Reading.{ReadsAs, times};
+ghost use Rattle.model_bits.specs.Reading.{leaving, times};
 ghost use Rattle.model_setup.specs.FloorSetup.{IsFloorClass, NamesBooks};
 ghost use Rattle.model_setup.specs.FloorReading.{master_at, class_at, subclass_book_at};
 
@@ -24,15 +24,22 @@ impl Model for Class {
 
     ghost Value = { FloorClass };
 
-    ghost view = { λ a. record { dimensions = a.dimensions; subclass_bits = a.subclass_bits; master = a.master; books = a.books.items } };
+    ghost view = { λ a. record {
+      dimensions = a.dimensions;
+      subclass_bits = a.subclass_bits;
+      master = a.master;
+      books = a.books.items;
+    } };
 }
 
 /// Reads the book of the class words, where there are subclasses.
 #[tactic(auto, unfolding(model_setup::specs::FloorReading::master_at))]
 fn read_master(bits: &mut Bits, books: u32, subclass_bits: u32) -> Result<Option<u8>, FloorFault>
-    ensures read { ReadsAs (λ n. n) result bits.new (master_at books subclass_bits bits.old.left) }
+    ensures read { master_at books subclass_bits bits.old.left
+        ≡ leaving bits.new.left (λ n. n) result }
     ensures below { IfOk result (λ named. IfSome named (λ n. n < books)) }
     ensures named { IfOk result (λ named. is_some named ≡ nat_lt 0 subclass_bits) }
+    ensures bytes { bits.new.total ≡ bits.old.total }
 {
     if subclass_bits == 0 {
         return Ok(None);
@@ -48,9 +55,11 @@ fn read_subclass_books(
     count: u32,
 ) -> Result<ArrayVec<Option<u8>, 8>, FloorFault>
     requires { count ≤ 8 }
-    ensures read { ReadsAs (λ v. v.items) result bits.new (times count (subclass_book_at books) bits.old.left) }
+    ensures read { times count (subclass_book_at books) bits.old.left
+        ≡ leaving bits.new.left (λ v. v.items) result }
     ensures count { IfOk result (λ v. length v.items ≡ count) }
     ensures below { IfOk result (λ v. All (λ named. IfSome named (λ n. n < books)) v.items) }
+    ensures bytes { bits.new.total ≡ bits.old.total }
 {
     let mut found = ArrayVec::new();
     for _ in 0..count {
@@ -63,9 +72,10 @@ fn read_subclass_books(
 /// Reads a class, in a setup of so many books.
 #[tactic(auto, unfolding(model_setup::specs::FloorReading::class_at))]
 pub fn read_class(bits: &mut Bits, books: u32) -> Result<Class, FloorFault>
-    ensures read { ReadsAs (λ a. a) result bits.new (class_at books bits.old.left) }
+    ensures read { class_at books bits.old.left ≡ leaving bits.new.left (λ a. a) result }
     ensures class { IfOk result IsFloorClass }
     ensures books { IfOk result (NamesBooks books) }
+    ensures bytes { bits.new.total ≡ bits.old.total }
 {
     let dimensions = read_field(bits, 3)? + 1;
     let subclass_bits = read_field(bits, 2)?;

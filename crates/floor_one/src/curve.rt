@@ -1,6 +1,6 @@
 ghost use Rattle.std.specs.Prelude.{◌≡◌, ◌≤◌, ◌<◌, ◌^◌, ◌+◌, ◌-◌, ◌/◌, ◌%◌, length, map, ℕ, ℤ, pos, neg_ℤ, ◌+ℤ◌, ◌-ℤ◌, ◌*ℤ◌, int_lt, if◌then◌else◌, unsigned_abs, slice_index};
 ghost use Rattle.std.specs.List.{range_with_len};
-ghost use Rattle.model_setup.specs.FloorCurve.{render_point, limited, curve_at, AreFinals};
+ghost use Rattle.model_setup.specs.FloorCurve.{render_point, decibel_number, curve_at, AreFinals};
 
 use crate::finals::Finals;
 use crate::floor::Floor;
@@ -13,8 +13,9 @@ struct Corner {
     y: i64,
 }
 
-/// How a straight line climbs or falls. From one line of a spectrum to the next its height changes by
-/// `base`, and by one more in the same `direction` as often as the remainders make up a whole width.
+/// How a straight line climbs or falls. From one bin of a spectrum to the next its height changes
+/// by `base`, and by one more in the same `direction` as often as the remainders make up a whole
+/// width.
 #[derive(Clone, Copy)]
 struct Slope {
     width: u64,
@@ -31,8 +32,8 @@ struct Pen {
 }
 
 /// A height as the number of a decibel value.
-fn limited(height: i64) -> u8
-    ensures { result ≡ limited height }
+fn decibel_number(height: i64) -> u8
+    ensures { result ≡ decibel_number height }
 {
     height.clamp(0, 255) as u8
 }
@@ -43,7 +44,8 @@ fn slope_between(low: Corner, high: Corner) -> Slope
     requires low { unsigned_abs low.y ≤ 2 ^ 27 }
     requires high { unsigned_abs high.y ≤ 2 ^ 27 }
     ensures width { result.width ≡ high.x - low.x }
-    ensures base { let whole = unsigned_abs (high.y -ℤ low.y) / (high.x - low.x) in result.base ≡ (if int_lt high.y low.y then neg_ℤ (pos whole) else pos whole) }
+    ensures base { let whole = unsigned_abs (high.y -ℤ low.y) / (high.x - low.x) in
+        result.base ≡ (if int_lt high.y low.y then neg_ℤ (pos whole) else pos whole) }
     ensures direction { result.direction ≡ (if int_lt high.y low.y then neg_ℤ (pos 1) else pos 1) }
     ensures remainder { result.remainder ≡ unsigned_abs (high.y -ℤ low.y) % (high.x - low.x) }
 {
@@ -69,7 +71,7 @@ fn slope_between(low: Corner, high: Corner) -> Slope
 }
 
 impl Slope {
-    /// The next line: one addition and one comparison (Vorbis I, section 9.2.7).
+    /// The next bin: one addition and one comparison (Vorbis I, section 9.2.7).
     fn next(self, pen: Pen) -> Pen
         requires width { self.width < 2 ^ 16 }
         requires base { unsigned_abs self.base ≤ 2 ^ 28 }
@@ -77,10 +79,14 @@ impl Slope {
         requires remainder { self.remainder < self.width }
         requires height { unsigned_abs pen.height ≤ 2 ^ 30 }
         requires error { pen.error < self.width }
-        ensures same { pen.error + self.remainder < self.width → result.height ≡ pen.height +ℤ self.base }
-        ensures same_error { pen.error + self.remainder < self.width → result.error ≡ pen.error + self.remainder }
-        ensures more { self.width ≤ pen.error + self.remainder → result.height ≡ (pen.height +ℤ self.base) +ℤ self.direction }
-        ensures more_error { self.width ≤ pen.error + self.remainder → result.error + self.width ≡ pen.error + self.remainder }
+        ensures same { pen.error + self.remainder < self.width
+            → result.height ≡ pen.height +ℤ self.base }
+        ensures same_error { pen.error + self.remainder < self.width
+            → result.error ≡ pen.error + self.remainder }
+        ensures more { self.width ≤ pen.error + self.remainder
+            → result.height ≡ (pen.height +ℤ self.base) +ℤ self.direction }
+        ensures more_error { self.width ≤ pen.error + self.remainder
+            → result.error + self.width ≡ pen.error + self.remainder }
     {
         let height = pen.height + self.base;
         let error = pen.error + self.remainder;
@@ -95,14 +101,15 @@ impl Slope {
     }
 }
 
-/// Draws the straight line from a corner up to the next, as far as there are lines: one addition and
-/// one comparison a line (Vorbis I, section 9.2.7).
+/// Draws the straight line from a corner up to the next, as far as there are bins: one addition
+/// and one comparison a bin (Vorbis I, section 9.2.7).
 fn draw(out: &mut [u8], low: Corner, high: Corner)
     requires order { low.x < high.x }
     requires within { high.x < 2 ^ 16 }
     requires low { unsigned_abs low.y ≤ 2 ^ 27 }
     requires high { unsigned_abs high.y ≤ 2 ^ 27 }
-    ensures inside { (k : ℕ) → low.x ≤ k → k < high.x → k < length out.old → slice_index out.new k ≡ limited (render_point low.x low.y high.x high.y k) }
+    ensures inside { (k : ℕ) → low.x ≤ k → k < high.x → k < length out.old
+        → slice_index out.new k ≡ decibel_number (render_point low.x low.y high.x high.y k) }
     ensures before { (k : ℕ) → k < low.x → slice_index out.new k ≡ slice_index out.old k }
 {
     let slope = slope_between(low, high);
@@ -111,12 +118,12 @@ fn draw(out: &mut [u8], low: Corner, high: Corner)
         error: 0,
     };
     for x in low.x..high.x.min(out.len()) {
-        out[x] = limited(pen.height);
+        out[x] = decibel_number(pen.height);
         pen = slope.next(pen);
     }
 }
 
-/// The corner at the flagged point of a line.
+/// The corner at the flagged point of a bin.
 fn corner_at(x: u16, point: Final, multiplier: u32) -> Corner
     requires multiplier { multiplier ≤ 4 }
     requires point { unsigned_abs point.value ≤ 2 ^ 25 }
@@ -132,7 +139,7 @@ fn corner_at(x: u16, point: Final, multiplier: u32) -> Corner
 
 impl Floor {
     /// Writes the curve through the flagged points, as `decode` of this floor gave them: for each
-    /// line the number of its decibel value, 0 to 255 (Vorbis I, section 7.2.4, step 2).
+    /// bin the number of its decibel value, 0 to 255 (Vorbis I, section 7.2.4, step 2).
     pub fn curve(&self, finals: &Finals, out: &mut [u8])
         requires { AreFinals self.now finals.now }
         ensures { out.new ≡ map (curve_at self.now finals.now) (range_with_len 0 (length out.old)) }
@@ -141,16 +148,16 @@ impl Floor {
         let finals = finals.items();
         let order = self.points().order();
         let mut corner = corner_at(0, finals[0], multiplier);
-        for place in &order[1..] {
-            let point = finals[usize::from(place.number)];
+        for position in &order[1..] {
+            let point = finals[usize::from(position.number)];
             if point.flagged {
-                let next = corner_at(place.x, point, multiplier);
+                let next = corner_at(position.x, point, multiplier);
                 draw(out, corner, next);
                 corner = next;
             }
         }
         for x in corner.x..out.len() {
-            out[x] = limited(corner.y);
+            out[x] = decibel_number(corner.y);
         }
     }
 }

@@ -1,17 +1,18 @@
 ghost use Rattle.std.specs.Prelude.{◌≡◌, ◌≤◌, ◌<◌, ◌^◌, ◌+◌, ◌++◌, ◌∷◌, [], ◌/◌, ◌%◌, ◌==◌, if◌then◌else◌, length, map, ℕ, true, not, ◌&&◌, ◌||◌, pos, ◌+ℤ◌, ◌-ℤ◌, int_lt, unsigned_abs, slice_index};
 ghost use Rattle.std.specs.List.{All};
 ghost use Rattle.model_setup.specs.FloorCurve.{render_point, low_room, high_room, room, final_value, finals_up_to, final_of};
-ghost use Rattle.floor_one.specs.Curves.{AreSmall, IsBelow, IsAbove, height_between_neighbours};
+ghost use Rattle.model_setup.specs.declared.floor.TheConstants.{MOST_POINTS};
+ghost use Rattle.floor_one.specs.Curves.{AreSmall, IsRange, AreNeighbours, AddsNext, height_between_neighbours};
 
 use crate::points::{Neighbours, Points};
 use arrayvec::ArrayVec;
-use model_setup::Final;
+use model_setup::{Final, MOST_POINTS};
 use std::marker::Model;
 
 /// The final value and the flag of each point of a floor, in one packet.
 #[derive(Debug, Drop)]
 pub struct Finals {
-    finals: ArrayVec<Final, 65>,
+    finals: ArrayVec<Final, MOST_POINTS>,
 }
 
 impl Model for Finals {
@@ -32,7 +33,7 @@ pub enum Floored {
     Curve(Finals),
 }
 
-/// The height at line `x` of the straight line between two points, rounded toward the first
+/// The height at bin `x` of the straight line between two points, rounded toward the first
 /// (Vorbis I, section 9.2.6).
 pub fn render_point(x0: u32, y0: i64, x1: u32, y1: i64, x: u32) -> i64
     requires low { unsigned_abs y0 ≤ 2 ^ 27 }
@@ -56,7 +57,8 @@ pub fn render_point(x0: u32, y0: i64, x1: u32, y1: i64, x: u32) -> i64
 fn moved_within(height: i64, y: u32) -> i64
     requires height { unsigned_abs height ≤ 2 ^ 8 }
     requires y { y ≤ 2 ^ 9 }
-    ensures value { result ≡ (if y % 2 == 1 then height -ℤ pos ((y + 1) / 2) else height +ℤ pos (y / 2)) }
+    ensures value { result ≡ (if y % 2 == 1 then height -ℤ pos ((y + 1) / 2)
+        else height +ℤ pos (y / 2)) }
     ensures small { unsigned_abs result ≤ 2 ^ 10 }
 {
     if y % 2 == 1 {
@@ -68,11 +70,12 @@ fn moved_within(height: i64, y: u32) -> i64
 
 /// The height of a point that a value moves past the room of one side, to the side that has more.
 fn moved_past(range: u32, height: i64, y: u32) -> i64
-    requires some { 64 ≤ range }
-    requires few { range ≤ 256 }
+    requires range { IsRange range }
     requires height { unsigned_abs height ≤ 2 ^ 24 }
     requires y { y < 2 ^ 24 }
-    ensures value { result ≡ (if int_lt (low_room height) (high_room range height) then (pos y -ℤ low_room height) +ℤ height else ((height -ℤ pos y) +ℤ high_room range height) -ℤ pos 1) }
+    ensures value { result ≡ (if int_lt (low_room height) (high_room range height)
+        then (pos y -ℤ low_room height) +ℤ height
+        else ((height -ℤ pos y) +ℤ high_room range height) -ℤ pos 1) }
     ensures small { unsigned_abs result ≤ 2 ^ 24 }
 {
     let y = i64::from(y);
@@ -96,11 +99,11 @@ fn room(range: u32, height: i64) -> i64
     2 * high_room.min(low_room)
 }
 
-/// The final value of a point that was predicted at a height, of so many heights (Vorbis I, section 7.2.4, step 1).
+/// The final value of a point that was predicted at a height, of so many heights (Vorbis I, section
+/// 7.2.4, step 1).
 #[tactic(auto, unfolding(model_setup::specs::FloorCurve::final_value))]
 fn final_value(range: u32, height: i64, y: u32) -> i64
-    requires some { 64 ≤ range }
-    requires few { range ≤ 256 }
+    requires range { IsRange range }
     requires height { unsigned_abs height ≤ 2 ^ 24 }
     requires y { y < 2 ^ 24 }
     ensures value { result ≡ final_value range height y }
@@ -129,10 +132,10 @@ fn value_at(finals: &[Final], i: usize) -> i64
 fn predicted(x_values: &[u16], finals: &[Final], i: usize, neighbours: Neighbours) -> i64
     requires within { i < length x_values.now }
     requires count { i ≤ length finals.now }
-    requires low { IsBelow x_values.now i neighbours.low }
-    requires high { IsAbove x_values.now i neighbours.high }
+    requires neighbours { AreNeighbours x_values.now i neighbours }
     requires small { AreSmall finals.now }
-    ensures value { result ≡ height_between_neighbours x_values.now finals.now i neighbours.low neighbours.high }
+    ensures value { result ≡ height_between_neighbours x_values.now finals.now i neighbours.low
+        neighbours.high }
     ensures small { unsigned_abs result ≤ 2 ^ 24 }
 {
     let low = usize::from(neighbours.low);
@@ -149,8 +152,10 @@ fn predicted(x_values: &[u16], finals: &[Final], i: usize, neighbours: Neighbour
 /// Flags a point.
 fn flag(finals: &mut [Final], i: usize)
     requires { i < length finals.old }
-    ensures values { map (λ (f : Final). f.value) finals.new ≡ map (λ (f : Final). f.value) finals.old }
-    ensures flags { (k : ℕ) → k < length finals.old → (final_of finals.new k).flagged ≡ ((final_of finals.old k).flagged || i == k) }
+    ensures values { map (λ (f : Final). f.value) finals.new
+        ≡ map (λ (f : Final). f.value) finals.old }
+    ensures flags { (k : ℕ) → k < length finals.old
+        → (final_of finals.new k).flagged ≡ ((final_of finals.old k).flagged || i == k) }
     ensures small { AreSmall finals.old → AreSmall finals.new }
 {
     finals[i].flagged = true;
@@ -160,8 +165,12 @@ fn flag(finals: &mut [Final], i: usize)
 fn flag_neighbours(finals: &mut [Final], neighbours: Neighbours, y: u32)
     requires low { neighbours.low < length finals.old }
     requires high { neighbours.high < length finals.old }
-    ensures values { map (λ (f : Final). f.value) finals.new ≡ map (λ (f : Final). f.value) finals.old }
-    ensures flags { (k : ℕ) → k < length finals.old → (final_of finals.new k).flagged ≡ ((final_of finals.old k).flagged || (not (y == 0) && (neighbours.low == k || neighbours.high == k))) }
+    ensures values { map (λ (f : Final). f.value) finals.new
+        ≡ map (λ (f : Final). f.value) finals.old }
+    ensures flags { (k : ℕ) → k < length finals.old
+        → (final_of finals.new k).flagged
+        ≡ ((final_of finals.old k).flagged
+        || (not (y == 0) && (neighbours.low == k || neighbours.high == k))) }
     ensures small { AreSmall finals.old → AreSmall finals.new }
 {
     if y != 0 {
@@ -170,26 +179,21 @@ fn flag_neighbours(finals: &mut [Final], neighbours: Neighbours, y: u32)
     }
 }
 
-/// Adds the next point to those so far.
+/// Adds the next point to those so far, from its value in the packet.
 fn push_next(
-    finals: &mut ArrayVec<Final, 65>,
+    finals: &mut ArrayVec<Final, MOST_POINTS>,
     x_values: &[u16],
     neighbours: Neighbours,
     range: u32,
     y: u32,
 )
     requires within { length finals.old.items < length x_values.now }
-    requires room { length x_values.now ≤ 65 }
-    requires low { IsBelow x_values.now (length finals.old.items) neighbours.low }
-    requires high { IsAbove x_values.now (length finals.old.items) neighbours.high }
+    requires room { length x_values.now ≤ MOST_POINTS }
+    requires neighbours { AreNeighbours x_values.now (length finals.old.items) neighbours }
     requires small { AreSmall finals.old.items }
-    requires some { 64 ≤ range }
-    requires few { range ≤ 256 }
+    requires range { IsRange range }
     requires y { y < 2 ^ 24 }
-    ensures count { length finals.new.items ≡ length finals.old.items + 1 }
-    ensures values { map (λ (f : Final). f.value) finals.new.items ≡ map (λ (f : Final). f.value) finals.old.items ++ final_value range (height_between_neighbours x_values.now finals.old.items (length finals.old.items) neighbours.low neighbours.high) y ∷ [] }
-    ensures before { (k : ℕ) → k < length finals.old.items → (final_of finals.new.items k).flagged ≡ ((final_of finals.old.items k).flagged || (not (y == 0) && (neighbours.low == k || neighbours.high == k))) }
-    ensures flag { (final_of finals.new.items (length finals.old.items)).flagged ≡ not (y == 0) }
+    ensures next { AddsNext x_values.now finals.old.items finals.new.items neighbours range y }
     ensures small { AreSmall finals.new.items }
 {
     let height = predicted(x_values, finals, finals.len(), neighbours);
@@ -216,8 +220,7 @@ impl Finals {
     /// The final value and the flag of each point, from the values that a packet has
     /// (Vorbis I, section 7.2.4, step 1).
     pub(crate) fn new(points: &Points, range: u32, values: &[u32]) -> Finals
-        requires some { 64 ≤ range }
-        requires few { range ≤ 256 }
+        requires range { IsRange range }
         requires count { length values.now ≡ length points.now }
         requires small { All (λ y. y < 2 ^ 24) values.now }
         ensures finals { result ≡ finals_up_to range points.now values.now (length points.now) }

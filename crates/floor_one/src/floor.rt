@@ -1,10 +1,9 @@
 ghost use Rattle.std.specs.Prelude.{◌≡◌, ◌≤◌, ◌<◌, ◌*◌, length, IfOk};
 ghost use Rattle.std.specs.List.{All};
-ghost use Rattle.model_bits.specs.Reading.{ReadsAs, times};
+ghost use Rattle.model_bits.specs.Reading.{leaving, times};
 ghost use Rattle.model_setup.specs.FloorSetup.{IsFloorClass, NamesBooks, FloorNamesBooks, ArePoints, IsFloor, class_count, value_count};
-ghost use Rattle.model_setup.specs.FloorReading.{floor_field, class_at, floor_at};
+ghost use Rattle.model_setup.specs.FloorReading.{floor_field, partition_classes_at, class_at, floor_at};
 ghost use Rattle.model_setup.specs.FloorPacket.{range_of};
-ghost use Rattle.floor_one.specs.Floors.{classes_of_partitions_at};
 
 use crate::class::{Class, read_class};
 use crate::fields::read_field;
@@ -31,7 +30,12 @@ impl Model for Floor {
 
     ghost Value = { FloorSetup };
 
-    ghost view = { λ a. record { partitions = a.partitions.items; classes = a.classes.items; multiplier = a.multiplier; x_values = a.points } };
+    ghost view = { λ a. record {
+      partitions = a.partitions.items;
+      classes = a.classes.items;
+      multiplier = a.multiplier;
+      x_values = a.points;
+    } };
 
     ghost invariant = { λ a. IsFloorOf a.partitions.items a.classes.items a.multiplier a.points };
 }
@@ -39,8 +43,10 @@ impl Model for Floor {
 /// Reads so many numbers of classes.
 fn read_class_numbers(bits: &mut Bits, count: u32) -> Result<ArrayVec<u8, 31>, FloorFault>
     requires { count ≤ 31 }
-    ensures read { ReadsAs (λ v. v.items) result bits.new (times count (floor_field 4) bits.old.left) }
+    ensures read { times count (floor_field 4) bits.old.left
+        ≡ leaving bits.new.left (λ v. v.items) result }
     ensures small { IfOk result (λ v. All (λ class. class < 16) v.items) }
+    ensures bytes { bits.new.total ≡ bits.old.total }
 {
     let mut numbers = ArrayVec::new();
     for _ in 0..count {
@@ -51,11 +57,13 @@ fn read_class_numbers(bits: &mut Bits, count: u32) -> Result<ArrayVec<u8, 31>, F
 }
 
 /// Reads the class of each partition.
-#[tactic(auto, unfolding(crate::specs::Floors::classes_of_partitions_at))]
-fn read_partitions(bits: &mut Bits) -> Result<ArrayVec<u8, 31>, FloorFault>
-    ensures read { ReadsAs (λ v. v.items) result bits.new (classes_of_partitions_at bits.old.left) }
+#[tactic(auto, unfolding(model_setup::specs::FloorReading::partition_classes_at))]
+fn read_partition_classes(bits: &mut Bits) -> Result<ArrayVec<u8, 31>, FloorFault>
+    ensures read { partition_classes_at bits.old.left
+        ≡ leaving bits.new.left (λ v. v.items) result }
     ensures small { IfOk result (λ v. All (λ class. class < 16) v.items) }
     ensures few { IfOk result (λ v. length v.items ≤ 31) }
+    ensures bytes { bits.new.total ≡ bits.old.total }
 {
     let count = read_field(bits, 5)?;
     read_class_numbers(bits, count)
@@ -77,10 +85,12 @@ fn class_count(partitions: &[u8]) -> u32
 /// Reads so many classes.
 fn read_classes(bits: &mut Bits, books: u32, count: u32) -> Result<ArrayVec<Class, 16>, FloorFault>
     requires { count ≤ 16 }
-    ensures read { ReadsAs (λ v. v.items) result bits.new (times count (class_at books) bits.old.left) }
+    ensures read { times count (class_at books) bits.old.left
+        ≡ leaving bits.new.left (λ v. v.items) result }
     ensures count { IfOk result (λ v. length v.items ≡ count) }
     ensures classes { IfOk result (λ v. All IsFloorClass v.items) }
     ensures books { IfOk result (λ v. All (NamesBooks books) v.items) }
+    ensures bytes { bits.new.total ≡ bits.old.total }
 {
     let mut classes = ArrayVec::new();
     for _ in 0..count {
@@ -109,13 +119,14 @@ fn value_count(partitions: &[u8], classes: &[Class]) -> u32
 impl Floor {
     /// Reads a floor, in a setup of so many books. The first cause of a refusal in reading order is
     /// answered; the bits are of no use then. It takes no memory.
-    #[tactic(auto, unfolding(model_setup::specs::FloorReading::floor_at, model_setup::specs::FloorReading::partitions_at, crate::specs::Floors::classes_of_partitions_at))]
+    #[tactic(auto, unfolding(model_setup::specs::FloorReading::floor_at, model_setup::specs::FloorReading::partitions_at, model_setup::specs::FloorReading::partition_classes_at))]
     pub fn read(bits: &mut Bits, books: u32) -> Result<Floor, FloorFault>
-        ensures read { ReadsAs (λ f. f) result bits.new (floor_at books bits.old.left) }
+        ensures read { floor_at books bits.old.left ≡ leaving bits.new.left (λ f. f) result }
         ensures floor { IfOk result IsFloor }
         ensures books { IfOk result (FloorNamesBooks books) }
+        ensures bytes { bits.new.total ≡ bits.old.total }
     {
-        let partitions = read_partitions(bits)?;
+        let partitions = read_partition_classes(bits)?;
         let classes = read_classes(bits, books, class_count(&partitions))?;
         let multiplier = read_field(bits, 2)? + 1;
         let range_bits = read_field(bits, 4)?;

@@ -1,14 +1,15 @@
 ghost use Rattle.std.specs.Prelude.{◌≡◌, ◌≤◌, ◌<◌, ◌^◌, ◌+◌, length, IfOk};
-ghost use Rattle.model_bits.specs.Reading.{ReadsAs, times};
+ghost use Rattle.model_bits.specs.Reading.{leaving, times};
+ghost use Rattle.model_setup.specs.declared.floor.TheConstants.{MOST_POINTS};
 ghost use Rattle.model_setup.specs.FloorSetup.{is_distinct, ArePoints};
 ghost use Rattle.model_setup.specs.FloorReading.{floor_field, x_values_at};
 ghost use Rattle.model_setup.specs.FloorCurve.{low_neighbour, high_neighbour};
-ghost use Rattle.floor_one.specs.Points.{AreEnds, AreInOrder, neighbours_of, places_of, with_ends};
+ghost use Rattle.floor_one.specs.Points.{AreEnds, AreInOrder, neighbours_of, positions_of, with_ends};
 
 use crate::fields::read_field;
 use arrayvec::ArrayVec;
 use bit_reader::Bits;
-use model_setup::FloorFault;
+use model_setup::{FloorFault, MOST_POINTS};
 use std::marker::Model;
 
 /// The numbers of the points nearest to a point, below and above it, among those before it
@@ -19,19 +20,19 @@ pub struct Neighbours {
     pub high: u8,
 }
 
-/// The line at which the point of a number stands.
+/// The bin of the spectrum at which the point of a number stands.
 #[derive(Clone, Copy, Debug, Default, PartialEq, Eq)]
-pub struct Place {
+pub struct Position {
     pub x: u16,
     pub number: u8,
 }
 
-/// The lines at which a floor's points stand, with what a packet needs of their order.
+/// The bins at which a floor's points stand, with what a packet needs of their order.
 #[derive(Debug, Drop)]
 pub struct Points {
-    x_values: ArrayVec<u16, 65>,
-    neighbours: ArrayVec<Neighbours, 65>,
-    order: ArrayVec<Place, 65>,
+    x_values: ArrayVec<u16, MOST_POINTS>,
+    neighbours: ArrayVec<Neighbours, MOST_POINTS>,
+    order: ArrayVec<Position, MOST_POINTS>,
 }
 
 impl Model for Points {
@@ -84,7 +85,7 @@ fn find_neighbours(x_values: &[u16], i: usize) -> Neighbours
 }
 
 /// The neighbours of each point behind the first two.
-fn all_neighbours(x_values: &[u16]) -> ArrayVec<Neighbours, 65>
+fn all_neighbours(x_values: &[u16]) -> ArrayVec<Neighbours, MOST_POINTS>
     requires { ArePoints x_values.now }
     ensures { result.items ≡ neighbours_of x_values.now }
 {
@@ -95,14 +96,14 @@ fn all_neighbours(x_values: &[u16]) -> ArrayVec<Neighbours, 65>
     all
 }
 
-/// The places of all points.
-fn places(x_values: &[u16]) -> ArrayVec<Place, 65>
-    requires { length x_values.now ≤ 65 }
-    ensures { result.items ≡ places_of x_values.now }
+/// The positions of all points.
+fn positions(x_values: &[u16]) -> ArrayVec<Position, MOST_POINTS>
+    requires { length x_values.now ≤ MOST_POINTS }
+    ensures { result.items ≡ positions_of x_values.now }
 {
     let mut all = ArrayVec::new();
     for i in 0..x_values.len() {
-        all.push(Place {
+        all.push(Position {
             x: x_values[i],
             number: i as u8,
         });
@@ -110,27 +111,32 @@ fn places(x_values: &[u16]) -> ArrayVec<Place, 65>
     all
 }
 
-/// The places of all points, in rising order of their lines.
-fn in_order(x_values: &[u16]) -> ArrayVec<Place, 65>
+/// The positions of all points, in rising order of their bins.
+fn in_order(x_values: &[u16]) -> ArrayVec<Position, MOST_POINTS>
     requires { ArePoints x_values.now }
     ensures { AreInOrder x_values.now result.items }
 {
-    let mut places = places(x_values);
-    places.as_mut_slice().sort_unstable_by_key(|place| place.x);
-    places
+    let mut positions = positions(x_values);
+    positions
+        .as_mut_slice()
+        .sort_unstable_by_key(|position| position.x);
+    positions
 }
 
-/// Reads the lines of so many points behind the first two, which stand at line 0 and at the end of a range of so many bits.
+/// Reads the bins of so many points behind the first two, which stand at bin 0 and at the end of
+/// a range of so many bits.
 fn read_x_values(
     bits: &mut Bits,
     range_bits: u32,
     count: u32,
-) -> Result<ArrayVec<u16, 65>, FloorFault>
+) -> Result<ArrayVec<u16, MOST_POINTS>, FloorFault>
     requires range_bits { range_bits < 16 }
     requires count { count ≤ 63 }
-    ensures read { ReadsAs (λ v. v.items) result bits.new (with_ends range_bits (times count (floor_field range_bits) bits.old.left)) }
+    ensures read { with_ends range_bits (times count (floor_field range_bits) bits.old.left)
+        ≡ leaving bits.new.left (λ v. v.items) result }
     ensures ends { IfOk result (λ v. AreEnds v.items) }
     ensures count { IfOk result (λ v. length v.items ≡ count + 2) }
+    ensures bytes { bits.new.total ≡ bits.old.total }
 {
     let mut x_values = ArrayVec::new();
     x_values.push(0);
@@ -147,11 +153,13 @@ fn read_x_values(
 pub fn read_points(bits: &mut Bits, range_bits: u32, count: u32) -> Result<Points, FloorFault>
     requires range_bits { range_bits < 16 }
     requires count { count < 2 ^ 16 }
-    ensures read { ReadsAs (λ p. p) result bits.new (x_values_at range_bits count bits.old.left) }
+    ensures read { x_values_at range_bits count bits.old.left
+        ≡ leaving bits.new.left (λ p. p) result }
     ensures points { IfOk result ArePoints }
     ensures count { IfOk result (λ p. length p ≡ count + 2) }
+    ensures bytes { bits.new.total ≡ bits.old.total }
 {
-    if count + 2 > 65 {
+    if count as usize + 2 > MOST_POINTS {
         return Err(FloorFault::List);
     }
     let x_values = read_x_values(bits, range_bits, count)?;
@@ -168,7 +176,7 @@ pub fn read_points(bits: &mut Bits, range_bits: u32, count: u32) -> Result<Point
 }
 
 impl Points {
-    /// The line of each point.
+    /// The bin of each point.
     pub fn x_values(&self) -> &[u16]
         ensures value { result.now ≡ self.now }
         ensures points { ArePoints self.now }
@@ -183,8 +191,8 @@ impl Points {
         self.neighbours.as_slice()
     }
 
-    /// The places of all points, in rising order of their lines.
-    pub fn order(&self) -> &[Place]
+    /// The positions of all points, in rising order of their bins.
+    pub fn order(&self) -> &[Position]
         ensures order { AreInOrder self.now result.now }
     {
         self.order.as_slice()

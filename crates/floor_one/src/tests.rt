@@ -1,29 +1,17 @@
 //! Floors and packets as `tools/reference.py` draws them, and what it reads from them.
 
+ghost use Rattle.std.specs.Prelude.{◌≡◌, length};
+
 use super::*;
 use bit_reader::Bits;
 use codebooks::{Book, Budget};
 use std::alloc::Global;
+use std::process::Abort;
 use std::test::Fail;
 
-/// Book 0 of the reference.
-const BOOK_0: [u8; 169] = [
-    66, 67, 86, 1, 0, 0, 1, 0, 156, 115, 206, 57, 231, 156, 115, 206, 57, 231, 156, 115, 206, 57,
-    231, 156, 115, 206, 57, 231, 156, 115, 206, 57, 231, 156, 115, 206, 57, 231, 156, 115, 206, 57,
-    231, 156, 115, 206, 57, 231, 156, 115, 206, 57, 231, 156, 115, 206, 57, 231, 156, 115, 206, 57,
-    231, 156, 115, 206, 57, 231, 156, 115, 206, 57, 231, 156, 115, 206, 57, 231, 156, 115, 206, 57,
-    231, 156, 115, 206, 57, 231, 156, 115, 206, 57, 231, 156, 115, 206, 57, 231, 156, 115, 206, 57,
-    231, 156, 115, 206, 57, 231, 156, 115, 206, 57, 231, 156, 115, 206, 57, 231, 156, 115, 206, 57,
-    231, 156, 115, 206, 57, 231, 156, 115, 206, 57, 231, 156, 115, 206, 57, 231, 156, 115, 206, 57,
-    231, 156, 115, 206, 57, 231, 156, 115, 206, 57, 231, 156, 115, 206, 57, 231, 156, 115, 206, 57,
-    231, 156, 115, 206, 57, 231, 0,
-];
+mod rows;
 
-/// Book 1 of the reference.
-const BOOK_1: [u8; 12] = [66, 67, 86, 1, 0, 4, 0, 0, 128, 32, 4, 0];
-
-/// Book 2 of the reference.
-const BOOK_2: [u8; 14] = [66, 67, 86, 2, 0, 8, 0, 0, 8, 33, 132, 16, 66, 0];
+use rows::{BOOK_0, BOOK_1, BOOK_2, ROWS, Row};
 
 fn read_book(alloc: Global, bytes: &[u8]) -> Result<Book, Fail> {
     let mut budget = Budget {
@@ -34,307 +22,231 @@ fn read_book(alloc: Global, bytes: &[u8]) -> Result<Book, Fail> {
 }
 
 /// A floor with one partition of one value: 256 heights, a range of 7 bits, and its third point at
-/// line 64.
+/// bin 64.
 const THREE_POINTS: [u8; 5] = [1, 64, 0, 7, 4];
+
+/// A value of the third point, and what it makes of it: its final value, whether it is flagged, and
+/// the curve at bins 32 and 96.
+#[derive(Clone, Copy)]
+struct Moved {
+    name: &'static str,
+    value: u8,
+    third: Final,
+    at_32: u8,
+    at_96: u8,
+}
+
+/// A final value with its flag.
+const fn point(value: i32, flagged: bool) -> Final {
+    Final { value, flagged }
+}
+
+/// The rows of the four ways in which a point moves.
+fn moved_rows() -> [Moved; 4] {
+    let row = |name, value, third, at_32, at_96| Moved {
+        name,
+        value,
+        third,
+        at_32,
+        at_96,
+    };
+    [
+        row("not moved", 0, point(75, false), 88, 63),
+        row("moved down", 9, point(70, true), 85, 60),
+        row("moved up", 10, point(80, true), 90, 65),
+        row("moved past the room", 160, point(160, true), 130, 105),
+    ]
+}
+
+/// A packet of the floor: 100 and 50 behind the bit that isn't 0, then the value as a codeword, its
+/// highest bit first.
+fn packet_of(value: u8) -> [u8; 4] {
+    (1 | 100 << 1 | 50 << 9 | u32::from(value.reverse_bits()) << 17).to_le_bytes()
+}
 
 #[test]
 fn draws_one_point_moved(rt: HostRuntime) -> Result<(), Fail> {
     let books = [read_book(rt.alloc(), &BOOK_0)?];
     let floor = Floor::read(&mut Bits::new(&THREE_POINTS), 1)?;
-    // the value that is read, the final value, whether it is flagged, the curve at lines 32 and 96
-    let rows: [(u8, i32, bool, u8, u8); 4] = [
-        (0, 75, false, 88, 63),
-        (9, 70, true, 85, 60),
-        (10, 80, true, 90, 65),
-        (160, 160, true, 130, 105),
-    ];
-    for (value, height, flagged, at_32, at_96) in rows {
-        // 100 and 50 behind the bit that isn't 0, then the value as a codeword, its highest bit first
-        let packet = (1 | 100 << 1 | 50 << 9 | u32::from(value.reverse_bits()) << 17).to_le_bytes();
+    for row in &moved_rows() {
+        let packet = packet_of(row.value);
         let mut bits = Bits::new(&packet);
         let Floored::Curve(finals) = floor.decode(&mut bits, &books) else {
-            panic!(rt; "unused");
+            panic!(rt; "{}: unused", row.name);
         };
-        let ends = [
-            Final {
-                value: 100,
-                flagged: true,
-            },
-            Final {
-                value: 50,
-                flagged: true,
-            },
-        ];
-        assert_eq!(rt;
-            finals.items(),
-            [
-                ends[0],
-                ends[1],
-                Final {
-                    value: height,
-                    flagged
-                }
-            ]
-            .as_slice()
+        let want = [point(100, true), point(50, true), row.third];
+        assert!(rt; finals.items() == want.as_slice(), "{}: finals", row.name);
+        let mut bins = [0; 128];
+        floor.curve(&finals, &mut bins);
+        assert!(rt;
+            bins[32] == row.at_32 && bins[96] == row.at_96,
+            "{}: curve",
+            row.name
         );
-        let mut lines = [0; 128];
-        floor.curve(&finals, &mut lines);
-        assert_eq!(rt; (lines[32], lines[96]), (at_32, at_96));
-        assert_eq!(rt; bits.take(7), Some(0));
-        assert_eq!(rt; bits.take(1), None);
-        // without its last byte, and without its first bit
-        let mut cut = Bits::new(&packet[..3]);
-        assert!(rt; matches!(floor.decode(&mut cut, &books), Floored::Unused));
-        assert_eq!(rt; cut.take(1), None);
-        let silent = [packet[0] & 0xfe];
-        let mut bits = Bits::new(&silent);
-        assert!(rt; matches!(floor.decode(&mut bits, &books), Floored::Unused));
-        assert_eq!(rt; bits.take(7), Some(100));
+        assert!(rt;
+            bits.take(7) == Some(0) && bits.take(1).is_none(),
+            "{}: bits left",
+            row.name
+        );
     }
     Ok(())
 }
 
 #[test]
+fn floors_are_unused(rt: HostRuntime) -> Result<(), Fail> {
+    let books = [read_book(rt.alloc(), &BOOK_0)?];
+    let floor = Floor::read(&mut Bits::new(&THREE_POINTS), 1)?;
+    let packet = packet_of(9);
+    let mut cut = Bits::new(&packet[..3]);
+    assert!(rt;
+        matches!(floor.decode(&mut cut, &books), Floored::Unused),
+        "cut in its last value"
+    );
+    assert!(rt; cut.take(1).is_none(), "a cut packet is used up");
+    let without_first_bit = [packet[0] & 0xfe];
+    let mut silent = Bits::new(&without_first_bit);
+    assert!(rt;
+        matches!(floor.decode(&mut silent, &books), Floored::Unused),
+        "its bit is 0"
+    );
+    assert!(rt;
+        silent.take(7) == Some(100),
+        "nothing behind the bit is read"
+    );
+    Ok(())
+}
+
+/// Reads a row's floor and packet, and compares what is drawn and what is left.
+fn check_row(rt: &impl Abort, row: &Row, books: &[Book]) -> Result<(), Fail>
+    requires { length books.now ≡ 3 }
+{
+    let floor = Floor::read(&mut Bits::new(row.floor), 3)?;
+    let mut bits = Bits::new(row.packet);
+    let mut bins = [0; 72];
+    assert!(rt; row.curve.len() <= 72, "{}: too long", row.name);
+    let bins = &mut bins[..row.curve.len()];
+    if let Floored::Curve(finals) = floor.decode(&mut bits, books) {
+        floor.curve(&finals, bins);
+    }
+    assert!(rt; &*bins == row.curve, "{}: curve", row.name);
+    for _ in 0..row.left {
+        assert!(rt;
+            bits.take(1).is_some(),
+            "{}: too few bits are left",
+            row.name
+        );
+    }
+    assert!(rt;
+        bits.take(1).is_none(),
+        "{}: too many bits are left",
+        row.name
+    );
+    Ok(())
+}
+
+#[test]
 fn draws_as_the_reference_does(rt: HostRuntime) -> Result<(), Fail> {
-    // a floor, a packet, the curve up to behind its last point (none where the floor is unused), the bits left
-    let rows: [(&[u8], &[u8], &[u8], u32); 14] = [
-        (
-            &[3, 2, 68, 64, 18, 16, 0, 192, 138, 122, 60, 48, 147, 8, 1],
-            &[
-                109, 19, 44, 222, 214, 35, 123, 46, 217, 30, 63, 114, 31, 203, 25, 113, 23, 68,
-            ],
-            &[
-                182, 197, 212, 227, 242, 221, 215, 209, 203, 197, 191, 185, 179, 173, 167, 161,
-                155, 149, 143, 137, 131, 125, 119, 113, 106, 96, 86, 75, 65, 55, 44, 34, 24, 13,
-                26, 40, 33, 26, 18, 33, 48, 63, 78, 94, 109, 124, 139, 154, 170, 185, 200, 215,
-                230, 246, 225, 203, 182, 160, 139, 117, 96, 74, 53, 31, 9, 9, 9, 9, 9, 9, 9, 9,
-            ],
-            73,
-        ),
-        (
-            &[3, 2, 68, 64, 18, 16, 0, 192, 138, 122, 60, 48, 147, 8, 1],
-            &[109, 19, 44, 222, 214],
-            &[],
-            0,
-        ),
-        (
-            &[
-                36, 32, 96, 10, 8, 8, 4, 12, 0, 129, 14, 153, 198, 98, 28, 75, 165, 52, 3, 3,
-            ],
-            &[
-                49, 32, 30, 105, 254, 218, 160, 238, 232, 185, 153, 127, 92, 124, 41, 153, 253,
-                175, 229, 147,
-            ],
-            &[
-                48, 48, 48, 48, 48, 48, 48, 47, 47, 47, 47, 47, 47, 47, 46, 46, 46, 47, 47, 48, 48,
-                48, 49, 49, 50, 46, 46, 46, 46, 46, 46, 46, 46, 46, 46, 46, 46, 46, 46, 46, 46, 46,
-                46, 46, 46, 46, 46, 46, 46, 46, 46, 47, 47, 48, 48, 48, 49, 49, 50, 50, 51, 51, 51,
-                52, 52, 53, 53, 53, 54, 54, 55, 55,
-            ],
-            121,
-        ),
-        (
-            &[
-                36, 32, 96, 10, 8, 8, 4, 12, 0, 129, 14, 153, 198, 98, 28, 75, 165, 52, 3, 3,
-            ],
-            &[49, 32, 30, 105, 254],
-            &[
-                48, 48, 48, 48, 48, 48, 48, 47, 47, 47, 47, 47, 47, 47, 46, 46, 46, 47, 47, 48, 48,
-                48, 49, 49, 50, 46, 46, 46, 46, 46, 46, 46, 46, 46, 46, 46, 46, 46, 46, 46, 46, 46,
-                46, 46, 46, 46, 46, 46, 46, 46, 46, 47, 47, 48, 48, 48, 49, 49, 50, 50, 51, 51, 51,
-                52, 52, 53, 53, 53, 54, 54, 55, 55,
-            ],
-            1,
-        ),
-        (
-            &[
-                3, 34, 146, 192, 0, 128, 22, 0, 24, 16, 8, 16, 8, 16, 16, 176, 132, 29, 89, 206,
-                197, 1,
-            ],
-            &[
-                179, 254, 233, 35, 47, 138, 242, 33, 31, 158, 228, 145, 197, 177, 11, 236, 181, 86,
-            ],
-            &[
-                255, 255, 249, 255, 255, 255, 255, 255, 255, 255, 255, 255, 255, 255, 255, 255,
-                255, 255, 255, 252, 255, 255, 255, 255, 255, 255, 255, 255, 255, 255, 255, 255,
-                255, 255, 255, 255, 255, 255, 255, 255,
-            ],
-            111,
-        ),
-        (
-            &[
-                3, 34, 146, 192, 0, 128, 22, 0, 24, 16, 8, 16, 8, 16, 16, 176, 132, 29, 89, 206,
-                197, 1,
-            ],
-            &[179, 254, 233, 35, 47],
-            &[
-                255, 255, 249, 255, 255, 255, 255, 255, 255, 255, 255, 255, 255, 255, 255, 255,
-                255, 255, 255, 252, 255, 255, 255, 255, 255, 255, 255, 255, 255, 255, 255, 255,
-                255, 255, 255, 255, 255, 255, 255, 255,
-            ],
-            7,
-        ),
-        (
-            &[34, 0, 4, 156, 128, 205, 145, 167, 4, 134, 180, 28, 4],
-            &[
-                41, 85, 229, 205, 142, 70, 220, 142, 212, 183, 194, 118, 77, 42, 90, 77, 118, 119,
-                6,
-            ],
-            &[
-                80, 80, 80, 79, 79, 78, 78, 77, 77, 76, 128, 180, 232, 255, 255, 74, 0, 0, 0, 0, 0,
-                0, 0, 4, 52, 100, 148, 54, 0, 0, 0, 0, 0, 0, 0, 0, 0, 0, 0, 0, 0, 0, 20, 64, 108,
-                152, 196, 240, 255, 0, 0, 0, 0, 0, 0, 148, 255, 255, 255, 255, 255, 255, 255, 216,
-                168, 168, 168, 168, 168, 168, 168, 168,
-            ],
-            67,
-        ),
-        (
-            &[34, 0, 4, 156, 128, 205, 145, 167, 4, 134, 180, 28, 4],
-            &[41, 85, 229, 205, 142],
-            &[],
-            0,
-        ),
-        (
-            &[
-                8, 0, 0, 0, 226, 4, 24, 129, 181, 0, 75, 92, 35, 113, 175, 56, 137, 60, 10, 250,
-                64, 136, 133, 27, 66, 231, 243, 252, 180, 86, 123, 113, 160, 78, 115, 190, 63, 126,
-                30, 240, 92, 101, 238, 81, 50, 204, 50, 163, 108, 13, 247, 20, 221, 12, 8, 98, 138,
-                136, 223, 26, 226, 78, 137, 163, 43, 52, 109, 72, 35, 128, 34, 55, 49, 17, 13, 230,
-                235, 170, 115, 131, 36, 170, 17, 44, 147, 129, 166, 7,
-            ],
-            &[
-                177, 186, 242, 62, 59, 249, 238, 245, 247, 159, 43, 73, 52, 175, 135, 245, 82, 11,
-                105, 185, 75, 13, 152, 46, 133, 187, 85, 182, 114, 168, 114, 99, 122, 205, 116,
-                102, 252, 182, 14, 14, 143, 241, 132, 99, 176, 228, 178, 186, 41, 112, 52, 116,
-                240, 100, 172, 104, 247, 0, 245, 176, 43, 61, 198, 102, 244, 91, 222, 170, 44, 202,
-                237, 205, 43, 81, 87, 65, 14, 77, 238,
-            ],
-            &[
-                96, 0, 0, 70, 255, 255, 255, 255, 255, 255, 255, 255, 255, 255, 255, 255, 255, 255,
-                255, 255, 255, 255, 255, 255, 255, 255, 255, 255, 255, 255, 255, 255, 255, 255,
-                255, 255, 255, 255, 255, 255, 255, 255, 255, 255, 255, 255, 255, 255, 255, 255,
-                255, 255, 255, 255, 255, 110, 0, 0, 0, 0, 102, 250, 255, 255, 255, 255, 255, 255,
-                245, 132, 113, 94,
-            ],
-            159,
-        ),
-        (
-            &[
-                8, 0, 0, 0, 226, 4, 24, 129, 181, 0, 75, 92, 35, 113, 175, 56, 137, 60, 10, 250,
-                64, 136, 133, 27, 66, 231, 243, 252, 180, 86, 123, 113, 160, 78, 115, 190, 63, 126,
-                30, 240, 92, 101, 238, 81, 50, 204, 50, 163, 108, 13, 247, 20, 221, 12, 8, 98, 138,
-                136, 223, 26, 226, 78, 137, 163, 43, 52, 109, 72, 35, 128, 34, 55, 49, 17, 13, 230,
-                235, 170, 115, 131, 36, 170, 17, 44, 147, 129, 166, 7,
-            ],
-            &[177, 186, 242, 62, 59],
-            &[],
-            0,
-        ),
-        (
-            &[0, 2],
-            &[179, 79, 67, 10, 7, 52, 71, 222, 99],
-            &[
-                217, 214, 211, 208, 205, 202, 199, 196, 192, 189, 186, 183, 180, 177, 174, 171,
-                167, 167, 167, 167, 167, 167, 167, 167,
-            ],
-            55,
-        ),
-        (
-            &[0, 2],
-            &[179, 79, 67, 10, 7],
-            &[
-                217, 214, 211, 208, 205, 202, 199, 196, 192, 189, 186, 183, 180, 177, 174, 171,
-                167, 167, 167, 167, 167, 167, 167, 167,
-            ],
-            23,
-        ),
-        (
-            &[3, 0, 148, 64, 0, 64, 22, 57, 83, 8, 197, 102, 245, 3],
-            &[
-                215, 67, 31, 181, 234, 215, 66, 77, 9, 225, 93, 2, 76, 88, 72, 242, 61, 31, 166,
-            ],
-            &[
-                214, 213, 212, 211, 210, 209, 208, 206, 205, 204, 203, 202, 201, 200, 198, 56, 0,
-                194, 0, 0, 0, 0, 0, 0, 0, 0, 0, 0, 0, 0, 0, 0, 0, 0, 0, 0, 0, 0, 0, 0, 0, 0, 0, 0,
-                0, 0, 1, 8, 15, 23, 30, 38, 45, 52, 60, 67, 74, 82, 89, 97, 104, 111, 119, 126,
-                134, 134, 134, 134, 134, 134, 134, 134,
-            ],
-            112,
-        ),
-        (
-            &[3, 0, 148, 64, 0, 64, 22, 57, 83, 8, 197, 102, 245, 3],
-            &[215, 67, 31, 181, 234],
-            &[
-                214, 213, 212, 211, 210, 209, 208, 206, 205, 204, 203, 202, 201, 200, 198, 56, 0,
-                194, 0, 0, 0, 0, 0, 0, 0, 0, 0, 0, 0, 0, 0, 0, 0, 0, 0, 0, 0, 0, 0, 0, 0, 0, 0, 0,
-                0, 0, 1, 8, 15, 23, 30, 38, 45, 52, 60, 67, 74, 82, 89, 97, 104, 111, 119, 126,
-                134, 134, 134, 134, 134, 134, 134, 134,
-            ],
-            0,
-        ),
-    ];
     let alloc = rt.alloc();
     let books = [
         read_book(alloc, &BOOK_0)?,
         read_book(alloc, &BOOK_1)?,
         read_book(alloc, &BOOK_2)?,
     ];
-    for (setup, packet, curve, left) in rows {
-        let floor = Floor::read(&mut Bits::new(setup), 3)?;
-        let mut bits = Bits::new(packet);
-        let mut lines = [0; 72];
-        assert!(rt; curve.len() <= 72);
-        let lines = &mut lines[..curve.len()];
-        if let Floored::Curve(finals) = floor.decode(&mut bits, &books) {
-            floor.curve(&finals, lines);
-        }
-        assert_eq!(rt; &*lines, curve);
-        for _ in 0..left {
-            assert!(rt; bits.take(1).is_some());
-        }
-        assert_eq!(rt; bits.take(1), None);
+    for row in &ROWS {
+        check_row(&rt, row, &books)?;
     }
     Ok(())
 }
 
+/// A floor of 65 points, all of one class without books.
+const POINTS_65: [u8; 88] = [
+    8, 0, 0, 0, 226, 0, 24, 0, 52, 0, 1, 6, 32, 160, 0, 3, 14, 64, 32, 1, 5, 22, 96, 160, 1, 7, 30,
+    128, 32, 2, 9, 38, 160, 160, 2, 11, 46, 192, 32, 3, 13, 54, 224, 160, 3, 15, 62, 0, 33, 4, 17,
+    70, 32, 161, 4, 19, 78, 64, 33, 5, 21, 86, 96, 161, 5, 23, 94, 128, 33, 6, 25, 102, 160, 161,
+    6, 27, 110, 192, 33, 7, 29, 118, 224, 161, 7, 31, 126, 0,
+];
+
+/// Floors as they stand in a setup of so many books, and the first cause of a refusal.
+const REFUSALS: [(&str, &[u8], u32, Option<FloorFault>); 9] = [
+    (
+        "the book of class words isn't there",
+        &[1, 80, 0, 0, 0, 4],
+        1,
+        Some(FloorFault::Book),
+    ),
+    (
+        "a subclass names book 1 of one",
+        &[1, 128, 0],
+        1,
+        Some(FloorFault::Book),
+    ),
+    (
+        "no books at all, and none named",
+        &[1, 0, 0, 53, 0],
+        0,
+        None,
+    ),
+    ("65 points", &POINTS_65, 0, None),
+    (
+        "66 points, told before their bins are read",
+        &[8, 0, 0, 0, 224, 0, 160],
+        0,
+        Some(FloorFault::List),
+    ),
+    (
+        "two points at one bin",
+        &[2, 0, 0, 112, 64, 32],
+        0,
+        Some(FloorFault::List),
+    ),
+    (
+        "a second point at bin 0",
+        &[1, 0, 0, 7, 0],
+        0,
+        Some(FloorFault::List),
+    ),
+    (
+        "bins are compared once all are read",
+        &[3, 0, 0, 0, 7, 4, 2],
+        0,
+        Some(FloorFault::End),
+    ),
+    (
+        "no partitions: two points, at bins 0 and 1",
+        &[96, 0],
+        0,
+        None,
+    ),
+];
+
 #[test]
 fn refuses_by_the_first_cause(rt: HostRuntime) {
-    let rows: [(&[u8], u32, Option<FloorFault>); 9] = [
-        // the book of class words isn't there
-        (&[1, 80, 0, 0, 0, 4], 1, Some(FloorFault::Book)),
-        // a subclass names book 1 of one
-        (&[1, 128, 0], 1, Some(FloorFault::Book)),
-        // no books at all, and none named
-        (&[1, 0, 0, 53, 0], 0, None),
-        // 65 points
-        (
-            &[
-                8, 0, 0, 0, 226, 0, 24, 0, 52, 0, 1, 6, 32, 160, 0, 3, 14, 64, 32, 1, 5, 22, 96,
-                160, 1, 7, 30, 128, 32, 2, 9, 38, 160, 160, 2, 11, 46, 192, 32, 3, 13, 54, 224,
-                160, 3, 15, 62, 0, 33, 4, 17, 70, 32, 161, 4, 19, 78, 64, 33, 5, 21, 86, 96, 161,
-                5, 23, 94, 128, 33, 6, 25, 102, 160, 161, 6, 27, 110, 192, 33, 7, 29, 118, 224,
-                161, 7, 31, 126, 0,
-            ],
-            0,
-            None,
-        ),
-        // 66 points: told before their lines are read
-        (&[8, 0, 0, 0, 224, 0, 160], 0, Some(FloorFault::List)),
-        // two points at one line
-        (&[2, 0, 0, 112, 64, 32], 0, Some(FloorFault::List)),
-        // a second point at line 0
-        (&[1, 0, 0, 7, 0], 0, Some(FloorFault::List)),
-        // the lines are compared once all are read
-        (&[3, 0, 0, 0, 7, 4, 2], 0, Some(FloorFault::End)),
-        // no partitions: two points, at lines 0 and 1
-        (&[96, 0], 0, None),
-    ];
-    for (setup, books, want) in rows {
+    for (name, setup, books, want) in REFUSALS {
         let fault = Floor::read(&mut Bits::new(setup), books).err();
-        assert!(rt; fault == want, "{setup:?}");
+        assert!(rt; fault == want, "{name}");
     }
     for count in 0..THREE_POINTS.len() {
         let fault = Floor::read(&mut Bits::new(&THREE_POINTS[..count]), 1).err();
         assert!(rt; fault == Some(FloorFault::End), "{count} bytes");
     }
+}
+
+#[test]
+fn faults_have_texts(rt: HostRuntime) -> Result<(), Fail> {
+    let rows = [
+        (FloorFault::End, "the packet ends within a floor"),
+        (
+            FloorFault::Book,
+            "a floor names a codebook that the setup doesn't have",
+        ),
+        (
+            FloorFault::List,
+            "a floor has more than 65 points, or two points at one bin of the spectrum",
+        ),
+    ];
+    for (fault, text) in rows {
+        let written = format!(in rt.alloc(); "{fault}")?;
+        assert_eq!(rt; written.as_str(), text);
+    }
+    Ok(())
 }

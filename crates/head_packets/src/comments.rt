@@ -1,6 +1,6 @@
 ghost use Rattle.std.specs.Prelude.{◌≡◌, Ok, Err, List, ℕ, drop, IfOk, MatchResult};
 ghost use Rattle.model_bits.specs.Bits.{bits_of};
-ghost use Rattle.model_bits.specs.Reading.{times, value_of};
+ghost use Rattle.model_bits.specs.Reading.{times, without_rest};
 ghost use Rattle.model_setup.specs.HeaderPackets.{comment_of, comment_at, comment_field, text_at, comment_framing_at};
 
 use crate::start::header_body;
@@ -11,9 +11,9 @@ use model_setup::CommentCause;
 /// The type of a comment packet.
 const COMMENT: u8 = 3;
 
-/// How many texts a comment packet has, or the first cause in the order of its fields why it is none
-/// (Vorbis I, section 5.2.1). The vendor's text isn't counted, no text is read, and what follows the
-/// framing bit is ignored.
+/// How many texts a comment packet has, or the first cause in the order of its fields why it is
+/// none (Vorbis I, section 5.2.1). The vendor's text isn't counted, no text is read, and what
+/// follows the framing bit is ignored.
 #[tactic(auto, unfolding(model_setup::specs::HeaderPackets::comment_at))]
 pub fn comment(bytes: &[u8]) -> Result<u32, CommentCause>
     ensures { result ≡ comment_of bytes.now }
@@ -57,7 +57,8 @@ fn split_text(bytes: &[u8]) -> Result<(&[u8], &[u8]), CommentCause>
 /// What stands behind so many texts.
 fn behind_texts(count: u32, bytes: &[u8]) -> Result<&[u8], CommentCause>
     ensures { MatchResult result
-        (λ rest. (texts : List (List ℕ)) × (times count text_at (bits_of bytes.now) ≡ Ok (texts, bits_of rest.now)))
+        (λ rest. (texts : List (List ℕ))
+        × (times count text_at (bits_of bytes.now) ≡ Ok (texts, bits_of rest.now)))
         (λ cause. times count text_at (bits_of bytes.now) ≡ Err cause) }
 {
     let mut rest = bytes;
@@ -72,8 +73,8 @@ fn behind_texts(count: u32, bytes: &[u8]) -> Result<&[u8], CommentCause>
 #[tactic(auto, unfolding(model_setup::specs::HeaderPackets::comment_framing_at))]
 fn check_framing(bytes: &[u8]) -> Result<(), CommentCause>
     ensures { MatchResult result
-        (λ _. value_of (comment_framing_at (bits_of bytes.now)) ≡ Ok 0)
-        (λ cause. value_of (comment_framing_at (bits_of bytes.now)) ≡ Err cause) }
+        (λ _. without_rest (comment_framing_at (bits_of bytes.now)) ≡ Ok 0)
+        (λ cause. without_rest (comment_framing_at (bits_of bytes.now)) ≡ Err cause) }
 {
     match Bits::new(bytes).take(1) {
         None => Err(CommentCause::End),

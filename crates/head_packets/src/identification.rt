@@ -1,6 +1,6 @@
 ghost use Rattle.std.specs.Prelude.{◌≡◌, ◌≤◌, ◌<◌, ◌^◌, ◌&&◌, nat_le, IfOk};
 ghost use Rattle.std.specs.Bool.{OnTrue};
-ghost use Rattle.model_bits.specs.Reading.{ReadsAs};
+ghost use Rattle.model_bits.specs.Reading.{leaving};
 ghost use Rattle.model_setup.specs.HeaderPackets.{ident_of, ident_at, ident_field, format_at, bitrates_at, blocks_at, ident_framing_at, may_be_blocks, IsBlockSize, IsPlayable};
 
 use crate::start::header_body;
@@ -34,7 +34,8 @@ pub fn ident(bytes: &[u8]) -> Result<IdentFields, IdentCause>
 /// The next field.
 fn read(bits: &mut Bits, count: u32) -> Result<u32, IdentCause>
     requires { count ≤ 32 }
-    ensures field { ReadsAs (λ n. n) result bits.new (ident_field count bits.old.left) }
+    ensures field { ident_field count bits.old.left ≡ leaving bits.new.left (λ n. n) result }
+    ensures bytes { bits.new.total ≡ bits.old.total }
     ensures below { IfOk result (λ n. n < 2 ^ count) }
 {
     bits.take(count).ok_or(IdentCause::End)
@@ -43,7 +44,8 @@ fn read(bits: &mut Bits, count: u32) -> Result<u32, IdentCause>
 /// The number of channels and the rate, behind the version.
 #[tactic(auto, unfolding(model_setup::specs::HeaderPackets::format_at))]
 fn read_format(bits: &mut Bits) -> Result<(u8, u32), IdentCause>
-    ensures read { ReadsAs (λ format. format) result bits.new (format_at bits.old.left) }
+    ensures read { format_at bits.old.left ≡ leaving bits.new.left (λ format. format) result }
+    ensures bytes { bits.new.total ≡ bits.old.total }
     ensures some { IfOk result (λ format. (0 < format.0) × (0 < format.1)) }
 {
     if read(bits, 32)? != 0 {
@@ -63,7 +65,8 @@ fn read_format(bits: &mut Bits) -> Result<(u8, u32), IdentCause>
 /// The three bitrates, of which nothing is kept.
 #[tactic(auto, unfolding(model_setup::specs::HeaderPackets::bitrates_at))]
 fn read_bitrates(bits: &mut Bits) -> Result<(), IdentCause>
-    ensures { ReadsAs (λ _. 0) result bits.new (bitrates_at bits.old.left) }
+    ensures read { bitrates_at bits.old.left ≡ leaving bits.new.left (λ _. 0) result }
+    ensures bytes { bits.new.total ≡ bits.old.total }
 {
     read(bits, 32)?;
     read(bits, 32)?;
@@ -74,8 +77,10 @@ fn read_bitrates(bits: &mut Bits) -> Result<(), IdentCause>
 /// The sizes of a short and of a long block.
 #[tactic(auto, unfolding(model_setup::specs::HeaderPackets::blocks_at))]
 fn read_blocks(bits: &mut Bits) -> Result<(u32, u32), IdentCause>
-    ensures read { ReadsAs (λ sizes. sizes) result bits.new (blocks_at bits.old.left) }
-    ensures sizes { IfOk result (λ sizes. IsBlockSize sizes.0 × IsBlockSize sizes.1 × (sizes.0 ≤ sizes.1)) }
+    ensures read { blocks_at bits.old.left ≡ leaving bits.new.left (λ sizes. sizes) result }
+    ensures bytes { bits.new.total ≡ bits.old.total }
+    ensures sizes { IfOk result (λ sizes. IsBlockSize sizes.0 × IsBlockSize sizes.1
+        × (sizes.0 ≤ sizes.1)) }
 {
     let short = read(bits, 4)?;
     let long = read(bits, 4)?;
@@ -104,7 +109,8 @@ fn size(exponent: u32) -> u32
 /// The framing bit, which must be set.
 #[tactic(auto, unfolding(model_setup::specs::HeaderPackets::ident_framing_at))]
 fn read_framing(bits: &mut Bits) -> Result<(), IdentCause>
-    ensures { ReadsAs (λ _. 0) result bits.new (ident_framing_at bits.old.left) }
+    ensures read { ident_framing_at bits.old.left ≡ leaving bits.new.left (λ _. 0) result }
+    ensures bytes { bits.new.total ≡ bits.old.total }
 {
     if read(bits, 1)? != 1 {
         return Err(IdentCause::Framing);

@@ -1,4 +1,5 @@
-//! Reads the identification and the comment packet of a Vorbis stream (Vorbis I, sections 4.2 and 5).
+//! Reads the identification and the comment packet of a Vorbis stream (Vorbis I, sections 4.2 and
+//! 5).
 #![tactic(auto)]
 
 mod comments;

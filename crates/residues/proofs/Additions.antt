@@ -1,10 +1,10 @@
 -- Values that are added one after the other, each at its place.
-use Rattle.std.proofs.Common.{◌≡◌, ℕ, ◌+◌, ◌*◌, ◌^◌, ◌<◌, ◌≤◌, List, [], ◌∷◌, ◌++◌, length, get_or, set, ℤ, pos, ◌+ℤ◌, unsigned_abs, w64, to_z, of_z, fold, refl, ap, sym, ◌∙◌, arith}
+use Rattle.std.proofs.Common.{◌≡◌, ℕ, ◌+◌, ◌*◌, ◌<◌, List, [], ◌∷◌, ◌++◌, length, get_or, set, ℤ, pos, ◌+ℤ◌, w64, to_z, of_z, fold, refl, ap, sym, ◌∙◌, arith}
 use Rattle.std.specs.List.{zip}
 use Rattle.std.proofs.lemmas.Grind.{fold-append}
 use Rattle.std.proofs.lemmas.Int.{to_z-of_z, fits_signed_from_abs}
 use Rattle.std.proofs.lemmas.List.FromFn.{length-map-range_with_len, map-range_with_len_more}
-use Rattle.model_fixed.specs.Fixed.{clamp}
+use Rattle.model_fixed.specs.Fixed.{IsWithinLimit, limited}
 use Rattle.model_setup.specs.ResidueDecoding.{add_to, add_all}
 use Rattle.residues.specs.Layout.{run_places}
 
@@ -27,20 +27,20 @@ add_more values first stride j terms h =
     ∙ ap (fold add_to values) (pushed ∙ ap (λ n. zip (run_places first stride j) terms ++ (place j, get_or terms n (pos 0)) ∷ []) len)
     ∙ fold-append add_to values (zip (run_places first stride j) terms) ((place j, get_or terms j (pos 0)) ∷ [])
 
-pub as_64_bits : (r : ℤ) → unsigned_abs r ≤ 2 ^ 32 → to_z w64 (of_z w64 r) ≡ r
+pub as_64_bits : (r : ℤ) → IsWithinLimit r → to_z w64 (of_z w64 r) ≡ r
 as_64_bits r h = to_z-of_z w64 r (fits_signed_from_abs w64 r (omega arith))
 
 -- one more value of a run is added
 module _ (start terms now : List ℤ) (first stride j : ℕ) (r : ℤ) (so_far : now ≡ add_all start (run_places first stride j) terms) (h : j < length terms) where
-  pub added_next : r ≡ clamp (2 ^ 32) (get_or now (first + j * stride) (pos 0) +ℤ get_or terms j (pos 0))
+  pub added_next : r ≡ limited (get_or now (first + j * stride) (pos 0) +ℤ get_or terms j (pos 0))
       → set now (first + j * stride) r ≡ add_all start (run_places first stride (j + 1)) terms
   added_next e =
       ap (set now (first + j * stride)) e ∙ ap (λ xs. add_to xs (first + j * stride, get_or terms j (pos 0))) so_far ∙ sym (add_more start first stride j terms h)
 
-  pub added_next_of : (x y : ℤ) → unsigned_abs x ≤ 2 ^ 32 → unsigned_abs y ≤ 2 ^ 32 → unsigned_abs r ≤ 2 ^ 32
-      → x ≡ get_or now (first + j * stride) (pos 0) → y ≡ get_or terms j (pos 0) → r ≡ clamp (2 ^ 32) (to_z w64 (of_z w64 x) +ℤ to_z w64 (of_z w64 y))
+  pub added_next_of : (x y : ℤ) → IsWithinLimit x → IsWithinLimit y → IsWithinLimit r
+      → x ≡ get_or now (first + j * stride) (pos 0) → y ≡ get_or terms j (pos 0) → r ≡ limited (to_z w64 (of_z w64 x) +ℤ to_z w64 (of_z w64 y))
       → set now (first + j * stride) (to_z w64 (of_z w64 r)) ≡ add_all start (run_places first stride (j + 1)) terms
   added_next_of x y sx sy sr ex ey e =
-      let z : r ≡ clamp (2 ^ 32) (x +ℤ y) = rw (as_64_bits x sx, as_64_bits y sy) at e in
+      let z : r ≡ limited (x +ℤ y) = rw (as_64_bits x sx, as_64_bits y sy) at e in
       ap (set now (first + j * stride)) (as_64_bits r sr)
-      ∙ added_next (z ∙ ap (λ a. clamp (2 ^ 32) (a +ℤ y)) ex ∙ ap (λ a. clamp (2 ^ 32) (get_or now (first + j * stride) (pos 0) +ℤ a)) ey)
+      ∙ added_next (z ∙ ap (λ a. limited (a +ℤ y)) ex ∙ ap (λ a. limited (get_or now (first + j * stride) (pos 0) +ℤ a)) ey)

@@ -6,7 +6,7 @@ use Rattle.std.proofs.lemmas.List.Elements.{All-replicate}
 use Rattle.model_setup.specs.declared.residue.ResidueKind.TheVariants.{Spread, InRow, Interleaved}
 use Rattle.residues.specs.Layout.{AreZero, AreLines}
 use Rattle.residues.specs.Decoders.{vector_size, vector_count, HasLines, HasRows}
-use Rattle.residues.specs.declared.decoding.Decoder.{Decoder}
+use Rattle.residues.specs.declared.decoder.Decoder.{Decoder}
 use Rattle.residues.proofs.Layouts.{count_is_lines, size_is_line}
 
 zero_small : (size : ℕ) (lines : List (List ℤ)) → All (λ line. length line ≡ size) lines → AreZero lines → AreLines size lines
@@ -32,8 +32,8 @@ begins_together d lines most kind sizes zero size one =
       wanted = one ∙ sym (ap (λ k. vector_count k (length lines)) kind);
     }
 
-pub begins_unread : (d : Decoder) (classes : List ℕ) → 0 < length d.residue.now.cascades → classes ≡ replicate (length d.wanted.now * d.width) 0 → HasRows d classes
+pub begins_unread : (d : Decoder) (classes : List ℕ) → 0 < length d.residue.now.cascades → classes ≡ replicate (length d.wanted.now * d.partitions) 0 → HasRows d classes
 begins_unread d classes some none = record {
-  count = ap length none ∙ length-replicate (length d.wanted.now * d.width) 0;
-  named = rw none (All-replicate (λ class. class < length d.residue.now.cascades) (length d.wanted.now * d.width) 0 some);
+  count = ap length none ∙ length-replicate (length d.wanted.now * d.partitions) 0;
+  named = rw none (All-replicate (λ class. class < length d.residue.now.cascades) (length d.wanted.now * d.partitions) 0 some);
 }

@@ -1,15 +1,15 @@
 -- What is added to lines, seen as the vectors of a kind.
-use Rattle.std.proofs.Common.{◌≡◌, ◌⊎◌, inl, inr, ℕ, ◌<◌, ◌≤◌, ◌^◌, List, [], ◌∷◌, length, get_or, set, ℤ, ap, sym, ◌∙◌, length-set}
-use Rattle.std.specs.Prelude.{unsigned_abs}
+use Rattle.std.proofs.Common.{◌≡◌, ◌⊎◌, inl, inr, ℕ, ◌<◌, List, [], ◌∷◌, length, get_or, set, ℤ, ap, sym, ◌∙◌, length-set}
 use Rattle.std.specs.List.{All}
 use Rattle.std.proofs.lemmas.List.{get_or_default}
 use Rattle.std.proofs.lemmas.List.Elements.{All-set}
+use Rattle.model_fixed.specs.Fixed.{IsWithinLimit}
 use Rattle.model_setup.specs.declared.residue.ResidueKind.{ResidueKind}
 use Rattle.model_setup.specs.declared.residue.ResidueKind.TheVariants.{Spread, InRow, Interleaved}
 use Rattle.model_setup.specs.ResidueDecoding.{add_all, vector_in}
 use Rattle.residues.specs.Layout.{together, vectors_in}
 use Rattle.residues.specs.Decoders.{vector_size, vector_count, HasLines}
-use Rattle.residues.specs.declared.decoding.Decoder.{Decoder}
+use Rattle.residues.specs.declared.decoder.Decoder.{Decoder}
 
 pub vectors_are_lines : (kind : ResidueKind) (size : ℕ) (lines : List (List ℤ)) → (kind ≡ Spread) ⊎ (kind ≡ InRow) → vectors_in kind size lines ≡ lines
 unfolding vectors_in
@@ -45,13 +45,13 @@ across_added kind size lines new vector run places values e first added same =
     ∙ ap (λ vs. set vs vector (add_all (vector_in vs vector) places values)) (sym (vectors_are_one kind size lines e))
 
 -- one line is another of the same size
-pub lines_with : (d : Decoder) (lines : List (List ℤ)) (vector : ℕ) (line : List ℤ) → HasLines d lines → length line ≡ d.line_size → All (λ v. unsigned_abs v ≤ 2 ^ 32) line → HasLines d (set lines vector line)
+pub lines_with : (d : Decoder) (lines : List (List ℤ)) (vector : ℕ) (line : List ℤ) → HasLines d lines → length line ≡ d.line_size → All IsWithinLimit line → HasLines d (set lines vector line)
 lines_with d lines vector line has size small =
     let n : length (set lines vector line) ≡ length lines = length-set lines vector line in
     record {
       are_lines = record {
         sizes = All-set (λ l. length l ≡ d.line_size) lines vector line size has.are_lines.sizes;
-        small = All-set (All (λ v. unsigned_abs v ≤ 2 ^ 32)) lines vector line small has.are_lines.small;
+        small = All-set (All IsWithinLimit) lines vector line small has.are_lines.small;
       };
       size = rw n has.size;
       wanted = rw n has.wanted;

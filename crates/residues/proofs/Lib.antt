@@ -1,9 +1,9 @@
-pub mod Folds
+pub mod Leads
 pub mod Steps
 pub mod Layouts
 pub mod Digits
 pub mod Parts
-pub mod Words
+pub mod ClassWords
 pub mod Begins
 pub mod Whole
 pub mod Together
@@ -11,4 +11,4 @@ pub mod Additions
 pub mod Crossings
 pub mod ReadingPlaces
 pub mod Silences
-pub mod Fronts
+pub mod FirstValues

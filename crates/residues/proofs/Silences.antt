@@ -1,19 +1,19 @@
 -- Values that no step of a decoding reaches.
-use Rattle.std.proofs.Common.{◌≡◌, ◌≢◌, ◌⊎◌, inl, inr, ℕ, zero, suc, ◌+◌, ◌-◌, ◌*◌, ◌/◌, ◌^◌, ◌<◌, ◌≤◌, min, List, [], ◌∷◌, ◌++◌, length, map, fold, get_or, set, replicate, Option, Some, None, Bool, true, false, cond, ℤ, pos, ◌+ℤ◌, refl, ap, sym, ◌∙◌, arith, get_or-set_other}
+use Rattle.std.proofs.Common.{◌≡◌, ◌≢◌, ◌⊎◌, inl, inr, ℕ, zero, suc, ◌+◌, ◌-◌, ◌*◌, ◌/◌, ◌<◌, ◌≤◌, min, List, [], ◌∷◌, ◌++◌, length, map, fold, get_or, set, replicate, Option, Some, None, Bool, true, false, cond, ℤ, pos, ◌+ℤ◌, refl, ap, sym, ◌∙◌, arith, get_or-set_other}
 use Rattle.std.specs.Prelude.{slice_index}
 use Rattle.std.specs.Int.{div_ceil}
-use Rattle.std.specs.List.{AllByRecursion, range_with_len, flat_map}
+use Rattle.std.specs.List.{AllByRecursion, range_with_len, flat_map, list_any}
 use Rattle.std.proofs.Math.Nat.{mul-le-mul_right, div-mul-le_self, div-le_self}
 use Rattle.std.proofs.lemmas.Bool.{false≢true}
-use Rattle.model_fixed.specs.Fixed.{clamp}
+use Rattle.model_fixed.specs.Fixed.{limited}
 use Rattle.model_setup.specs.Codebook.{Codebook}
 use Rattle.model_setup.specs.Codewords.{entry_at}
 use Rattle.model_setup.specs.Vectors.{vector_at}
 use Rattle.model_setup.specs.declared.residue.ResidueKind.{ResidueKind}
 use Rattle.model_setup.specs.declared.residue.ResidueKind.TheVariants.{Spread, InRow, Interleaved}
 use Rattle.model_setup.specs.ResidueSetup.{ResidueSetup}
-use Rattle.model_setup.specs.ResidueDecoding.{Step, Word, Part, each_wanted, words_of_group, group_steps, pass_steps, steps, Decoding, book_of, places_of, partition_count, row_width, with_word, add_to, add_all, spread_places, row_places, reading_places, with_values, after_reading, with_part, pass_book, after_step, decoded_from, start}
-use Rattle.residues.specs.ResidueLaws.{NothingOutsideTheRange, UnwantedStaysSilent}
+use Rattle.model_setup.specs.ResidueDecoding.{Step, Word, Part, each_wanted, words_of_group, group_steps, pass_steps, steps, Decoding, book_of, classwords_of, partition_count, with_word, add_to, add_all, spread_places, row_places, reading_places, with_values, after_reading, with_part, pass_book, after_step, decoded_from, start, group_size, channel_of, outcome, separated, any_wanted, by_kind, residue_vectors}
+use Rattle.residues.specs.ResidueLaws.{NothingOutsideTheRange, UnwantedStaysSilent, NoneWantedStaysSilent}
 
 -- ---- lists
 
@@ -43,8 +43,8 @@ all_items P f a (suc n) holds = (holds a (omega arith) (omega arith), all_items 
 -- ---- the steps
 
 -- a group's partitions are some of the residue's
-in_group : (first places partitions k : ℕ) → first ≤ k → k < first + min places (partitions - first) → k < partitions
-in_group first places partitions k low high = omega arith
+in_group : (first classwords partitions k : ℕ) → first ≤ k → k < first + min classwords (partitions - first) → k < partitions
+in_group first classwords partitions k low high = omega arith
 
 -- what holds of each word's step, and of each part's of a wanted vector, holds of each step
 module _ (P : Step → Type 0) (wanted : List Bool) where
@@ -60,23 +60,23 @@ module _ (P : Step → Type 0) (wanted : List Bool) where
   all_words words zero group = all_wanted (Word group) (λ vector is. words group vector)
   all_words words (suc pass) group = tt
 
-  module _ (partitions places : ℕ) (words : (group vector : ℕ) → P (Word group vector)) (parts : (pass partition vector : ℕ) → partition < partitions → get_or wanted vector false ≡ true → P (Part pass partition vector)) where
-    all_of_group : (pass group : ℕ) → AllByRecursion P (group_steps partitions places wanted pass group)
+  module _ (partitions classwords : ℕ) (words : (group vector : ℕ) → P (Word group vector)) (parts : (pass partition vector : ℕ) → partition < partitions → get_or wanted vector false ≡ true → P (Part pass partition vector)) where
+    all_of_group : (pass group : ℕ) → AllByRecursion P (group_steps partitions classwords wanted pass group)
     unfolding group_steps
     all_of_group pass group =
-        let first = group * places in
-        let many = min places (partitions - group * places) in
+        let first = group * classwords in
+        let many = min classwords (partitions - group * classwords) in
         all_joined P (words_of_group wanted pass group) (flat_map (λ partition. each_wanted wanted (Part pass partition)) (range_with_len first many))
         (all_words words pass group)
-        (all_parts P (λ partition. each_wanted wanted (Part pass partition)) first many (λ k low high. all_wanted (Part pass k) (λ vector is. parts pass k vector (in_group first places partitions k low high) is)))
+        (all_parts P (λ partition. each_wanted wanted (Part pass partition)) first many (λ k low high. all_wanted (Part pass k) (λ vector is. parts pass k vector (in_group first classwords partitions k low high) is)))
 
-    all_of_pass : (pass : ℕ) → AllByRecursion P (pass_steps partitions places wanted pass)
+    all_of_pass : (pass : ℕ) → AllByRecursion P (pass_steps partitions classwords wanted pass)
     unfolding pass_steps
-    all_of_pass pass = all_parts P (group_steps partitions places wanted pass) 0 (div_ceil partitions places) (λ k low high. all_of_group pass k)
+    all_of_pass pass = all_parts P (group_steps partitions classwords wanted pass) 0 (div_ceil partitions classwords) (λ k low high. all_of_group pass k)
 
-    all_steps : AllByRecursion P (steps partitions places wanted)
+    all_steps : AllByRecursion P (steps partitions classwords wanted)
     unfolding steps
-    all_steps = all_parts P (pass_steps partitions places wanted) 0 8 (λ k low high. all_of_pass k)
+    all_steps = all_parts P (pass_steps partitions classwords wanted) 0 8 (λ k low high. all_of_pass k)
 
 -- ---- one value
 
@@ -85,7 +85,7 @@ added_elsewhere : (line : List ℤ) (places : List ℕ) (terms : List ℤ) (p : 
 added_elsewhere line [] terms p other = refl
 added_elsewhere line (q ∷ qs) [] p other = refl
 added_elsewhere line (q ∷ qs) (t ∷ ts) p other =
-    added_elsewhere (add_to line (q, t)) qs ts p other.1 ∙ get_or-set_other line q p (clamp (2 ^ 32) (get_or line q (pos 0) +ℤ t)) (pos 0) other.0
+    added_elsewhere (add_to line (q, t)) qs ts p other.1 ∙ get_or-set_other line q p (limited (get_or line q (pos 0) +ℤ t)) (pos 0) other.0
 
 -- a vector that has the same value at a place
 set_alike : (vectors : List (List ℤ)) (vector v p : ℕ) (line : List ℤ) → get_or line p (pos 0) ≡ get_or (get_or vectors vector []) p (pos 0) → get_or (get_or (set vectors vector line) v []) p (pos 0) ≡ get_or (get_or vectors v []) p (pos 0)
@@ -193,18 +193,18 @@ module _ (v p : ℕ) where
   step_keeps books residue size d (Word group vector) spares silent =
       word_keeps books residue size group vector d d.going (entry_at (book_of books residue.class_book).lengths d.left) silent
   step_keeps books residue size d (Part pass partition vector) spares silent =
-      part_keeps books residue partition vector d (pass_book residue (slice_index d.classes (vector * row_width books residue size + partition)) pass) spares silent
+      part_keeps books residue partition vector d (pass_book residue (slice_index d.classes (vector * partition_count residue size + partition)) pass) spares silent
 
   -- a place that each step spares is 0 at the end
   spared : (books : List Codebook) (residue : ResidueSetup) (size : ℕ) (wanted : List Bool) (count : ℕ) (left : List Bool)
       → ((pass partition vector : ℕ) → partition < partition_count residue size → get_or wanted vector false ≡ true → Spares residue (Part pass partition vector))
-      → Silent (decoded_from books residue size wanted (start books residue size count left))
+      → Silent (decoded_from books residue size wanted (start residue size count left))
   unfolding decoded_from
   spared books residue size wanted count left parts =
       let partitions = partition_count residue size in
-      let places = places_of books residue in
-      fold_keeps (after_step books residue size) Silent (Spares residue) (λ d step spares silent. step_keeps books residue size d step spares silent) (start books residue size count left) (steps partitions places wanted)
-      (all_steps (Spares residue) wanted partitions places (λ group vector. tt) parts) (starts_silent count size v p)
+      let classwords = classwords_of books residue in
+      fold_keeps (after_step books residue size) Silent (Spares residue) (λ d step spares silent. step_keeps books residue size d step spares silent) (start residue size count left) (steps partitions classwords wanted)
+      (all_steps (Spares residue) wanted partitions classwords (λ group vector. tt) parts) (starts_silent count size v p)
 
 -- ---- the laws
 
@@ -226,3 +226,64 @@ pub unwanted_silent : UnwantedStaysSilent
 unwanted_silent books residue size wanted count left vector unwanted place =
     spared vector place books residue size wanted count left (λ pass partition other lt is.
     inl (λ same. false≢true (sym unwanted ∙ ap (λ (k : ℕ). get_or wanted k false) same ∙ is)))
+
+-- ---- where nothing is wanted
+
+none_joined : {B : Type 0} (g : ℕ → List B) (a n : ℕ) → ((k : ℕ) → g k ≡ []) → flat_map g (range_with_len a n) ≡ []
+none_joined g a zero none = refl
+none_joined g a (suc n) none = rw (none a) (none_joined g (a + 1) n none)
+
+-- one that is wanted is among them
+not_wanted : (wanted : List Bool) (k : ℕ) → list_any (λ w. w) wanted ≡ false → get_or wanted k false ≡ false
+not_wanted [] k none = refl
+not_wanted (true ∷ wanted) k none = absurd (false≢true (sym none))
+not_wanted (false ∷ wanted) zero none = refl
+not_wanted (false ∷ wanted) (suc k) none = not_wanted wanted k none
+
+module _ (wanted : List Bool) (none : list_any (λ w. w) wanted ≡ false) where
+  no_step : (step : ℕ → Step) → each_wanted wanted step ≡ []
+  no_step step = none_joined (λ vector. cond (get_or wanted vector false) (step vector ∷ []) []) 0 (length wanted) (λ k. ap (λ b. cond b (step k ∷ []) []) (not_wanted wanted k none))
+
+  no_words : (pass group : ℕ) → words_of_group wanted pass group ≡ []
+  no_words zero group = no_step (Word group)
+  no_words (suc pass) group = refl
+
+  no_group : (partitions classwords pass group : ℕ) → group_steps partitions classwords wanted pass group ≡ []
+  unfolding group_steps
+  no_group partitions classwords pass group =
+      rw (no_words pass group) (none_joined (λ partition. each_wanted wanted (Part pass partition)) (group * classwords) (group_size partitions classwords group) (λ partition. no_step (Part pass partition)))
+
+  no_pass : (partitions classwords pass : ℕ) → pass_steps partitions classwords wanted pass ≡ []
+  unfolding pass_steps
+  no_pass partitions classwords pass = none_joined (group_steps partitions classwords wanted pass) 0 (div_ceil partitions classwords) (no_group partitions classwords pass)
+
+  no_steps : (partitions classwords : ℕ) → steps partitions classwords wanted ≡ []
+  unfolding steps
+  no_steps partitions classwords = none_joined (pass_steps partitions classwords wanted) 0 8 (no_pass partitions classwords)
+
+  pub nothing_decoded : (books : List Codebook) (residue : ResidueSetup) (size : ℕ) (d : Decoding) → decoded_from books residue size wanted d ≡ d
+  unfolding decoded_from
+  nothing_decoded books residue size d = ap (fold (after_step books residue size) d) (no_steps (partition_count residue size) (classwords_of books residue))
+
+all_same : {A : Type 0} (f : ℕ → A) (x : A) (a n : ℕ) → ((k : ℕ) → f k ≡ x) → map f (range_with_len a n) ≡ replicate n x
+all_same f x a zero same = refl
+all_same f x a (suc n) same = ap (λ y. y ∷ map f (range_with_len (a + 1) n)) (same a) ∙ ap (λ ys. x ∷ ys) (all_same f x (a + 1) n same)
+
+silent_apart : (count size : ℕ) → map (channel_of (replicate (size * count) (pos 0)) count size) (range_with_len 0 count) ≡ replicate count (replicate size (pos 0))
+silent_apart count size =
+    all_same (channel_of (replicate (size * count) (pos 0)) count size) (replicate size (pos 0)) 0 count
+    (λ j. all_same (λ i. get_or (replicate (size * count) (pos 0)) (i * count + j) (pos 0)) (pos 0) 0 size (λ i. replicate_same (size * count) (i * count + j) (pos 0)))
+
+none_by_kind : (kind : ResidueKind) (books : List Codebook) (residue : ResidueSetup) (size : ℕ) (wanted : List Bool) (left : List Bool) → list_any (λ w. w) wanted ≡ false
+    → by_kind kind books residue size wanted left ≡ (replicate (length wanted) (replicate size (pos 0)), left)
+none_by_kind Spread books residue size wanted left none = ap outcome (nothing_decoded wanted none books residue size (start residue size (length wanted) left))
+none_by_kind InRow books residue size wanted left none = ap outcome (nothing_decoded wanted none books residue size (start residue size (length wanted) left))
+none_by_kind Interleaved books residue size wanted left none =
+    let all = size * length wanted in
+    let alone : list_any (λ w. w) (any_wanted wanted) ≡ false = rw none refl in
+    ap (separated (length wanted) size) (nothing_decoded (any_wanted wanted) alone books residue all (start residue all 1 left))
+    ∙ ap {B = List (List ℤ) × List Bool} (λ vs. (vs, left)) (silent_apart (length wanted) size)
+
+pub none_wanted_silent : NoneWantedStaysSilent
+unfolding residue_vectors
+none_wanted_silent books residue size wanted left none = none_by_kind residue.kind books residue size wanted left none

@@ -1,11 +1,13 @@
--- What the steps of a decoding leave as it is, and the steps for wanted vectors.
-use Rattle.std.proofs.Common.{◌≡◌, ℕ, ◌+◌, ◌*◌, List, [], ◌∷◌, Bool, true, false, cond, Option, Some, None, ℤ, refl, ap, sym, ◌∙◌, fold}
+-- What the steps of a decoding leave as it is.
+use Rattle.std.proofs.Common.{◌≡◌, ℕ, ◌+◌, ◌*◌, List, Bool, false, Option, Some, None, ℤ, refl}
 use Rattle.std.proofs.lemmas.List.Folds.{fold_stays}
 use Rattle.model_setup.specs.Codebook.{Codebook}
 use Rattle.model_setup.specs.ResidueSetup.{ResidueSetup}
-use Rattle.model_setup.specs.ResidueDecoding.{Step, Word, Part, book_of, pass_book, row_width, reading_places, after_reading, with_part, after_step}
-use Rattle.std.specs.Prelude.{slice_index, slice_index_or}
-use Rattle.residues.specs.Decoders.{state}
+use Rattle.model_setup.specs.ResidueDecoding.{Step, Word, Part, book_of, pass_book, partition_count, reading_places, after_reading, with_part, after_step}
+use Rattle.std.specs.Prelude.{slice_index}
+use Rattle.residues.specs.Decoders.{state, state_of, step_of, vectors_of}
+use Rattle.residues.specs.declared.decoder.Decoder.{Decoder}
+use Rattle.residues.specs.declared.decoder.Workspace.{Workspace}
 
 -- once the packet has ended, nothing changes
 pub reading_stays : (book : Codebook) (vector : ℕ) (vectors : List (List ℤ)) (classes : List ℕ) (left : List Bool) (places : List ℕ) → after_reading book vector (state vectors classes left false) places ≡ state vectors classes left false
@@ -22,14 +24,11 @@ pub step_stays : (books : List Codebook) (residue : ResidueSetup) (size : ℕ) (
 unfolding after_step
 step_stays books residue size vectors classes left (Word group vector) = refl
 step_stays books residue size vectors classes left (Part pass partition vector) =
-    part_stays books residue partition vector vectors classes left (pass_book residue (slice_index classes (vector * row_width books residue size + partition)) pass)
+    part_stays books residue partition vector vectors classes left (pass_book residue (slice_index classes (vector * partition_count residue size + partition)) pass)
 
--- the step of a vector, where it is wanted
-abbrev pub if_wanted : List Bool → (ℕ → Step) → ℕ → List Step
-if_wanted wanted step vector = cond (slice_index_or wanted vector false) (step vector ∷ []) []
+-- the same of what a workspace holds
+pub reading_kept : (book : Codebook) (vector : ℕ) (d : Decoder) (w : Workspace) (places : List ℕ) → after_reading book vector (state_of d w false) places ≡ state_of d w false
+reading_kept book vector d w places = reading_stays book vector (vectors_of d w.lines.now) w.classes.now w.bits.now.left places
 
-pub wanted_fold : {A : Type 0} (f : A → Step → A) (wanted : List Bool) (step : ℕ → Step) (vector : ℕ) (now next : A) → slice_index_or wanted vector false ≡ true → next ≡ f now (step vector) → next ≡ fold f now (if_wanted wanted step vector)
-wanted_fold f wanted step vector now next is e = e ∙ ap (λ b. fold f now (cond b (step vector ∷ []) [])) (sym is)
-
-pub unwanted_fold : {A : Type 0} (f : A → Step → A) (wanted : List Bool) (step : ℕ → Step) (vector : ℕ) (now : A) → slice_index_or wanted vector false ≡ false → now ≡ fold f now (if_wanted wanted step vector)
-unwanted_fold f wanted step vector now isnt = ap (λ b. fold f now (cond b (step vector ∷ []) [])) (sym isnt)
+pub step_kept : (d : Decoder) (w : Workspace) (step : Step) → step_of d (state_of d w false) step ≡ state_of d w false
+step_kept d w step = step_stays d.books.now d.residue.now d.size (vectors_of d w.lines.now) w.classes.now w.bits.now.left step

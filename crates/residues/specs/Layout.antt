@@ -1,6 +1,7 @@
 -- How the vectors of a residue lie in lines.
-use Rattle.std.specs.Prelude.{◌≡◌, ℕ, ◌+◌, ◌*◌, ◌/◌, ◌%◌, ◌^◌, ◌≤◌, List, [], ◌∷◌, length, map, ℤ, pos, unsigned_abs, slice_index_or}
+use Rattle.std.specs.Prelude.{◌≡◌, ℕ, ◌+◌, ◌*◌, ◌/◌, ◌%◌, List, [], ◌∷◌, length, map, ℤ, pos, slice_index_or}
 use Rattle.std.specs.List.{All, range_with_len}
+use Rattle.model_fixed.specs.Fixed.{IsWithinLimit}
 use Rattle.model_setup.specs.declared.residue.ResidueKind.{ResidueKind}
 use Rattle.model_setup.specs.declared.residue.ResidueKind.TheVariants.{Spread, InRow, Interleaved}
 
@@ -11,7 +12,7 @@ line_size lines = length (slice_index_or lines 0 [])
 -- lines of so many values, none of them past the limit
 pub record AreLines (size : ℕ) (lines : List (List ℤ)) : Type 0 where
   pub sizes : All (λ line. length line ≡ size) lines
-  pub small : All (All (λ v. unsigned_abs v ≤ 2 ^ 32)) lines
+  pub small : All (All IsWithinLimit) lines
 
 -- lines of which all values are 0
 abbrev pub AreZero : List (List ℤ) → Type 0
@@ -19,7 +20,9 @@ AreZero lines = All (All (λ v. v ≡ pos 0)) lines
 
 -- all lines as one vector, value by value
 unfoldable pub together : ℕ → List (List ℤ) → List ℤ
-together size lines = map (λ p. slice_index_or (slice_index_or lines (p % length lines) []) (p / length lines) (pos 0)) (range_with_len 0 (size * length lines))
+together size lines = map (λ p.
+    slice_index_or (slice_index_or lines (p % length lines) []) (p / length lines) (pos 0))
+    (range_with_len 0 (size * length lines))
 
 -- the vectors of a kind, in lines of so many values
 unfoldable pub vectors_in : ResidueKind → ℕ → List (List ℤ) → List (List ℤ)

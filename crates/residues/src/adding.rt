@@ -1,15 +1,16 @@
-ghost use Rattle.std.specs.Prelude.{◌≡◌, ◌≤◌, ◌<◌, ◌^◌, ◌+◌, ◌*◌, ◌+ℤ◌, [], length, ℕ, unsigned_abs, slice_index_or};
-ghost use Rattle.model_fixed.specs.Fixed.{clamp};
+ghost use Rattle.std.specs.Prelude.{◌≡◌, ◌≤◌, ◌<◌, ◌^◌, ◌+◌, ◌*◌, ◌+ℤ◌, [], length, ℕ, slice_index_or};
+ghost use Rattle.model_fixed.specs.Fixed.{IsWithinLimit, limited};
 ghost use Rattle.std.specs.List.{All};
 ghost use Rattle.model_setup.specs.ResidueDecoding.{add_all, reading_places};
 ghost use Rattle.model_setup.specs.declared.residue.ResidueKind.TheVariants.{Interleaved};
 ghost use Rattle.residues.specs.Layout.{AreLines, together, run_places};
 
 use crate::Line;
+use model_fixed::VALUE_LIMIT;
 use model_setup::ResidueKind;
 
 /// What sums are limited to, on both sides.
-const LIMIT: i64 = 1 << 32;
+const LIMIT: i64 = VALUE_LIMIT as i64;
 
 /// Where the values of one reading are added: the first place, how far the next one is, and how
 /// many there are.
@@ -22,10 +23,10 @@ pub struct Run {
 
 /// A sum within the limit.
 fn limited_sum(value: i64, term: i64) -> i64
-    requires value { unsigned_abs value ≤ 2 ^ 32 }
-    requires term { unsigned_abs term ≤ 2 ^ 32 }
-    ensures sum { result ≡ clamp (2 ^ 32) (value +ℤ term) }
-    ensures small { unsigned_abs result ≤ 2 ^ 32 }
+    requires value { IsWithinLimit value }
+    requires term { IsWithinLimit term }
+    ensures sum { result ≡ limited (value +ℤ term) }
+    ensures small { IsWithinLimit result }
 {
     (value + term).clamp(-LIMIT, LIMIT)
 }
@@ -34,11 +35,12 @@ fn limited_sum(value: i64, term: i64) -> i64
 pub fn add_to_line(line: &mut Line, run: Run, values: &[i64])
     requires within { (j : ℕ) → j < run.count → run.first + j * run.stride < length line.old }
     requires enough { run.count ≤ length values.now }
-    requires line { All (λ v. unsigned_abs v ≤ 2 ^ 32) line.old }
-    requires values { All (λ v. unsigned_abs v ≤ 2 ^ 32) values.now }
-    ensures added { line.new ≡ add_all line.old (run_places run.first run.stride run.count) values.now }
+    requires line { All IsWithinLimit line.old }
+    requires values { All IsWithinLimit values.now }
+    ensures added { line.new ≡ add_all line.old (run_places run.first run.stride run.count)
+        values.now }
     ensures size { length line.new ≡ length line.old }
-    ensures small { All (λ v. unsigned_abs v ≤ 2 ^ 32) line.new }
+    ensures small { All IsWithinLimit line.new }
 {
     let line = line.items_mut();
     for j in 0..run.count {
@@ -52,8 +54,9 @@ pub fn add_across(lines: &mut [Line], size: usize, first: usize, count: usize, v
     requires lines { AreLines size lines.old }
     requires within { first + count ≤ size * length lines.old }
     requires enough { count ≤ length values.now }
-    requires values { All (λ v. unsigned_abs v ≤ 2 ^ 32) values.now }
-    ensures added { together size lines.new ≡ add_all (together size lines.old) (run_places first 1 count) values.now }
+    requires values { All IsWithinLimit values.now }
+    ensures added { together size lines.new
+        ≡ add_all (together size lines.old) (run_places first 1 count) values.now }
     ensures lines { AreLines size lines.new }
 {
     let channels = lines.len();
@@ -97,7 +100,8 @@ pub fn run_of(
     requires first { first < 2 ^ 25 }
     requires size { size ≤ 2 ^ 24 }
     requires reading { reading < length (reading_places kind first size dimensions) }
-    ensures places { run_places result.first result.stride result.count ≡ slice_index_or (reading_places kind first size dimensions) reading [] }
+    ensures places { run_places result.first result.stride result.count
+        ≡ slice_index_or (reading_places kind first size dimensions) reading [] }
     ensures within { (j : ℕ) → j < result.count → result.first + j * result.stride < first + size }
     ensures enough { result.count ≤ dimensions }
     ensures few { result.count ≤ size }

@@ -1,5 +1,6 @@
 ghost use Rattle.std.specs.Prelude.{◌≡◌, ◌≤◌, ◌<◌, ◌^◌, length, IfOk};
-ghost use Rattle.model_setup.specs.ResidueReading.{ReadsResidueAs, residue_field, serving_book_at};
+ghost use Rattle.sequence.specs.Answers.{Answers};
+ghost use Rattle.model_setup.specs.ResidueReading.{residue_field, serving_book_at};
 ghost use Rattle.model_setup.specs.ResidueSetup.{names_classes, has_values, Serves};
 
 use bit_reader::Bits;
@@ -9,7 +10,9 @@ use model_setup::ResidueFault;
 /// Reads a number of so many bits.
 pub fn read_field(bits: &mut Bits, count: u32) -> Result<u32, ResidueFault>
     requires { count ≤ 32 }
-    ensures field { ReadsResidueAs (λ n. n) result bits.new (residue_field count bits.old.left) }
+    ensures field { Answers ResidueFault.Memory (λ n. (n, bits.new.left)) result
+        (residue_field count bits.old.left) }
+    ensures bytes { bits.new.total ≡ bits.old.total }
     ensures below { IfOk result (λ n. n < 2 ^ count) }
 {
     bits.take(count).ok_or(ResidueFault::End)
@@ -37,7 +40,9 @@ fn has_values(book: &Book) -> bool
 /// Reads the number of a book for class words, of so many classes.
 #[tactic(auto, unfolding(model_setup::specs::ResidueReading::serving_book_at))]
 pub fn read_class_book(bits: &mut Bits, books: &[Book], classes: u32) -> Result<u8, ResidueFault>
-    ensures read { ReadsResidueAs (λ n. n) result bits.new (serving_book_at (names_classes classes) books.now bits.old.left) }
+    ensures read { Answers ResidueFault.Memory (λ n. (n, bits.new.left)) result
+        (serving_book_at (names_classes classes) books.now bits.old.left) }
+    ensures bytes { bits.new.total ≡ bits.old.total }
     ensures serves { IfOk result (Serves (names_classes classes) books.now) }
 {
     let number = read_field(bits, 8)?;
@@ -50,7 +55,9 @@ pub fn read_class_book(bits: &mut Bits, books: &[Book], classes: u32) -> Result<
 /// Reads the number of a book for values.
 #[tactic(auto, unfolding(model_setup::specs::ResidueReading::serving_book_at))]
 pub fn read_value_book(bits: &mut Bits, books: &[Book]) -> Result<u8, ResidueFault>
-    ensures read { ReadsResidueAs (λ n. n) result bits.new (serving_book_at has_values books.now bits.old.left) }
+    ensures read { Answers ResidueFault.Memory (λ n. (n, bits.new.left)) result
+        (serving_book_at has_values books.now bits.old.left) }
+    ensures bytes { bits.new.total ≡ bits.old.total }
     ensures serves { IfOk result (Serves has_values books.now) }
 {
     let number = read_field(bits, 8)?;

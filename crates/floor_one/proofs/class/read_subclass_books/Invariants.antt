@@ -10,4 +10,5 @@ invariant-loop l = record {
   read : with_front l.found.items (times (l.count - l.counter) (subclass_book_at l.books) l.bits.left) ≡ times l.count (subclass_book_at l.books) l.fn.bits.left;
   count : length l.found.items ≡ l.counter;
   below : All (λ named. IfSome named (λ n. n < l.books)) l.found.items;
+  bytes : l.bits.total ≡ l.fn.bits.total;
 }

@@ -1,4 +1,4 @@
-use Rattle.std.proofs.Common.{◌≡◌, ◌+◌, ◌*◌, ◌%◌, ◌^◌, ◌<◌, ◌≤◌, length, ap, arith}
+use Rattle.std.proofs.Common.{◌∙◌, ◌≡◌, ◌+◌, ◌*◌, ◌%◌, ◌^◌, ◌<◌, ◌≤◌, length, ap, arith}
 use Rattle.std.proofs.lemmas.List.Elements.{All-push}
 use Rattle.model_setup.specs.FloorSetup.{FloorClass}
 use Rattle.model_bits.proofs.Each.{each_number_ends}
@@ -25,6 +25,7 @@ loop-preserved c =
       word = next_digits c.args.word c.loop.word (2 ^ class.subclass_bits) c.loop.counter _ c.loop.invariant.word divisor;
       count = omega arith;
       small = λ h. rw c.push.ensures.items (All-push (λ y. y < 2 ^ 24) c.loop.values.items c.in_ok-value.value (c.loop.invariant.small h) c.in_ok-value.ensures.small);
+      bytes = c.in_ok-value.ensures.bytes ∙ c.loop.invariant.bytes;
     }
 
 pub returns-clause-read : goal.returns-clause-read

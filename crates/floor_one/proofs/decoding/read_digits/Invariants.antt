@@ -11,4 +11,5 @@ invariant-loop l = record {
   word : l.word ≡ l.fn.word / (2 ^ l.class.subclass_bits) ^ l.counter;
   count : length l.values.items ≡ length l.fn.values.items + l.counter;
   small : All (λ y. y < 2 ^ 24) l.fn.values.items → All (λ y. y < 2 ^ 24) l.values.items;
+  bytes : l.bits.total ≡ l.fn.bits.total;
 }

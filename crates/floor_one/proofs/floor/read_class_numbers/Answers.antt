@@ -1,4 +1,4 @@
-use Rattle.std.proofs.Common.{◌<◌, length-append, arith}
+use Rattle.std.proofs.Common.{◌∙◌, ◌<◌, length-append, arith}
 use Rattle.std.proofs.lemmas.List.Elements.{All-push}
 use Rattle.std.proofs.lemmas.Result.{err_from_is_err_and}
 use Rattle.model_bits.proofs.Times.{times_goes_on, times_fails}
@@ -13,6 +13,7 @@ loop-preserved c =
       read = times_goes_on m c.loop.numbers.items c.args.count c.loop.counter c.loop.bits.left _ c.loop.invariant.read c.in_ok-number.number c.read_field.new.bits.left c.loop-test.true c.in_ok-number.ensures.field;
       count = simp length-append (omega arith);
       small = All-push (λ class. class < 16) c.loop.numbers.items c.in_ok-number.number c.loop.invariant.small c.in_ok-number.ensures.below;
+      bytes = c.in_ok-number.ensures.bytes ∙ c.loop.invariant.bytes;
     })
 
 pub returns-in_err-number-clause-read : goal.returns-in_err-number-clause-read

@@ -10,4 +10,5 @@ invariant-loop l = record {
   read : with_front l.numbers.items (times (l.count - l.counter) (floor_field 4) l.bits.left) ≡ times l.count (floor_field 4) l.fn.bits.left;
   count : length l.numbers.items ≡ l.counter;
   small : All (λ class. class < 16) l.numbers.items;
+  bytes : l.bits.total ≡ l.fn.bits.total;
 }

@@ -1,4 +1,4 @@
-use Rattle.std.proofs.Common.{length-append, arith}
+use Rattle.std.proofs.Common.{◌∙◌, length-append, arith}
 use Rattle.std.proofs.lemmas.List.Elements.{All-push}
 use Rattle.model_bits.proofs.Times.{times_goes_on}
 use Rattle.model_setup.specs.FloorSetup.{IsFloorClass, NamesBooks}
@@ -14,4 +14,5 @@ loop-preserved c =
       count = simp length-append (omega arith);
       classes = All-push IsFloorClass c.loop.classes.items c.in_ok-class.class c.loop.invariant.classes c.in_ok-class.ensures.class;
       books = All-push (NamesBooks c.args.books) c.loop.classes.items c.in_ok-class.class c.loop.invariant.books c.in_ok-class.ensures.books;
+      bytes = c.in_ok-class.ensures.bytes ∙ c.loop.invariant.bytes;
     })

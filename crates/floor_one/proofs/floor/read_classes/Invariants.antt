@@ -12,4 +12,5 @@ invariant-loop l = record {
   count : length l.classes.items ≡ l.counter;
   classes : All IsFloorClass l.classes.items;
   books : All (NamesBooks l.books) l.classes.items;
+  bytes : l.bits.total ≡ l.fn.bits.total;
 }

@@ -18,4 +18,5 @@ loop-preserved c =
       count = simp length-append (omega arith);
       ends = ends_push xs x c.loop.invariant.ends (omega arith) (omega arith);
       end = get_or_append_left xs (x ∷ []) 0 1 (omega arith) ∙ end;
+      bytes = c.in_ok-x.ensures.bytes ∙ c.loop.invariant.bytes;
     })

@@ -11,4 +11,5 @@ invariant-loop l = record {
   count : length l.x_values.items ≡ l.counter + 2;
   ends : AreEnds l.x_values.items;
   end : slice_index l.x_values.items 1 ≡ 2 ^ l.range_bits;
+  bytes : l.bits.total ≡ l.fn.bits.total;
 }

@@ -1,5 +1,6 @@
-use Rattle.std.proofs.Common.{◌≡◌, ◌+◌, ◌*◌, ◌<◌, ◌≤◌, ◌^◌, [], length, get_or, set, pos, unsigned_abs, refl, ap, ◌∙◌, w64, to_z, of_z, arith}
+use Rattle.std.proofs.Common.{◌≡◌, ◌+◌, ◌*◌, ◌<◌, [], length, get_or, set, pos, refl, ap, ◌∙◌, w64, to_z, of_z, arith}
 use Rattle.std.proofs.lemmas.List.{length-set, get_or_default}
+use Rattle.model_fixed.specs.Fixed.{IsWithinLimit}
 use Rattle.residues.specs.Layout.{AreLines}
 use Rattle.residues.proofs.Additions.{as_64_bits}
 use Rattle.residues.proofs.Crossings.{row_within, written, stay_lines, added_across}
@@ -25,8 +26,8 @@ loop-j-preserved c =
     let reads : j < length terms = omega arith in
     let line_is : items ≡ get_or lines channel [] = c.items_mut-line.ensures.value ∙ get_or_default lines channel c.index-lines-channel.result [] k in
     let in_line : place < length (get_or lines channel []) = omega (arith, are.sizes channel [] k) in
-    let small : unsigned_abs v ≤ 2 ^ 32 = rw (as_64_bits r c.limited_sum.ensures.small) c.limited_sum.ensures.small in
-    let small_value : unsigned_abs (get_or items place (pos 0)) ≤ 2 ^ 32 = rw line_is (are.small channel [] k place (pos 0) in_line) in
+    let small : IsWithinLimit v = rw (as_64_bits r c.limited_sum.ensures.small) c.limited_sum.ensures.small in
+    let small_value : IsWithinLimit (get_or items place (pos 0)) = rw line_is (are.small channel [] k place (pos 0) in_line) in
     rw (written size lines channel place c.index-lines-channel.result items v are k h c.items_mut-line.ensures.value) (record {
       added = added_across size _ terms lines c.args.first j channel place (get_or items place (pos 0)) (get_or terms j (pos 0)) r are k h c.loop-j.invariant.added reads at
           small_value (c.requires.values j (pos 0) reads) c.limited_sum.ensures.small (ap (λ xs. get_or xs place (pos 0)) line_is) refl c.limited_sum.ensures.sum;

@@ -1,6 +1,7 @@
-use Rattle.std.proofs.Common.{◌+◌, ◌*◌, ◌<◌, ◌≤◌, ◌^◌, length, get_or, pos, unsigned_abs, refl, ◌∙◌, w64, to_z, of_z, arith}
+use Rattle.std.proofs.Common.{◌+◌, ◌*◌, ◌<◌, length, get_or, pos, refl, ◌∙◌, w64, to_z, of_z, arith}
 use Rattle.std.proofs.lemmas.List.{length-set}
 use Rattle.std.proofs.lemmas.List.Elements.{All-set}
+use Rattle.model_fixed.specs.Fixed.{IsWithinLimit}
 use Rattle.residues.proofs.Additions.{added_next_of, as_64_bits}
 use Rattle.residues.proofs.adding.add_to_line.Goals as goal
 
@@ -12,11 +13,11 @@ loop-j-preserved c =
     let r = c.limited_sum.result in
     let reads : c.loop-j.j < length terms = omega arith in
     let within : place < length now = omega (arith, c.requires.within c.loop-j.j c.loop-j-test.true) in
-    let small : unsigned_abs (to_z w64 (of_z w64 r)) ≤ 2 ^ 32 = rw (as_64_bits r c.limited_sum.ensures.small) c.limited_sum.ensures.small in
+    let small : IsWithinLimit (to_z w64 (of_z w64 r)) = rw (as_64_bits r c.limited_sum.ensures.small) c.limited_sum.ensures.small in
     record {
       added = added_next_of c.args.line.now terms now c.args.run.first c.args.run.stride c.loop-j.j r c.loop-j.invariant.added reads
           (get_or now place (pos 0)) (get_or terms c.loop-j.j (pos 0)) (c.loop-j.invariant.small place (pos 0) within) (c.requires.values c.loop-j.j (pos 0) reads)
           c.limited_sum.ensures.small refl refl c.limited_sum.ensures.sum;
       size = length-set now place (to_z w64 (of_z w64 r)) ∙ c.loop-j.invariant.size;
-      small = All-set (λ v. unsigned_abs v ≤ 2 ^ 32) now place (to_z w64 (of_z w64 r)) small c.loop-j.invariant.small;
+      small = All-set IsWithinLimit now place (to_z w64 (of_z w64 r)) small c.loop-j.invariant.small;
     }

@@ -3,21 +3,17 @@ use Rattle.std.proofs.lemmas.List.{take_more_set, get_or-set_same, get_or-set_ot
 use Rattle.std.proofs.Math.ListN.{set, length-set}
 use borrow.Author.Count.{below_more}
 use Rattle.std.proofs.lemmas.Result.{err_from_is_err_and}
-use Rattle.std.specs.List.{range_with_len}
-use Rattle.model_bits.specs.Reading.{each}
 use Rattle.model_bits.proofs.Each.{each_number_goes_on, each_number_fails, each_number_ends}
 use Rattle.model_setup.specs.ResidueSetup.{Serves, has_values}
 use Rattle.model_setup.specs.ResidueReading.{pass_book_at, cascade_at}
-use Rattle.model_setup.proofs.ResidueFaults.{still_fails}
 use Rattle.residues.proofs.residue.read_cascade.Goals as goal
 
 pub returns-in_err-cascade-clause-read : goal.returns-in_err-cascade-clause-read
 unfolding cascade_at
 returns-in_err-cascade-clause-read c =
     let p = err_from_is_err_and c.from_residual.result c.from_residual.ensures.1 in
-    let m = pass_book_at c.args.books.now c.args.passes in
-    rw (p.1, p.2) (still_fails c.in_err-cascade.field-0.0 (m c.loop-pass.pass c.loop-pass.bits.left) (each m (range_with_len 0 8) c.args.bits.now.left)
-    (λ f h. each_number_fails m (take c.loop-pass.pass c.loop-pass.cascade) 8 c.loop-pass.pass c.loop-pass.bits.left _ c.loop-pass.invariant.read f c.loop-pass-test.true h) c.in_err-cascade.ensures.read)
+    let m = pass_book_at c.args.books.now c.args.flags in
+    rw (p.1, p.2) (λ other. each_number_fails m (take c.loop-pass.pass c.loop-pass.cascade) 8 c.loop-pass.pass c.loop-pass.bits.left _ c.loop-pass.invariant.read _ c.loop-pass-test.true (c.in_err-cascade.ensures.read other))
 
 kept : (P : ℕ → Type 0) (xs : List (Option ℕ)) (i : ℕ) (v : Option ℕ) → i < length xs → ((k : ℕ) → k < i → IfSome (get_or xs k None) P) → IfSome v P
     → (k : ℕ) → k < i + 1 → IfSome (get_or (set xs i v) k None) P
@@ -27,11 +23,12 @@ kept P xs i v lt below here = below_more _ i
 
 pub loop-pass-preserved : goal.loop-pass-preserved
 loop-pass-preserved c =
-    let m = pass_book_at c.args.books.now c.args.passes in
+    let m = pass_book_at c.args.books.now c.args.flags in
     let i = c.loop-pass.pass in
     let lt : i < length c.loop-pass.cascade = omega (arith, c.loop-pass.invariant.count) in
     record {
       read = rw (take_more_set c.loop-pass.cascade i c.in_ok-cascade.field-0 lt) (each_number_goes_on m (take i c.loop-pass.cascade) 8 i c.loop-pass.bits.left _ c.loop-pass.invariant.read c.in_ok-cascade.field-0 c.read_pass_book.new.bits.left c.loop-pass-test.true c.in_ok-cascade.ensures.read);
+      bytes = c.in_ok-cascade.ensures.bytes ∙ c.loop-pass.invariant.bytes;
       count = length-set c.loop-pass.cascade i c.in_ok-cascade.field-0 ∙ c.loop-pass.invariant.count;
       serves = kept (Serves has_values c.args.books.now) c.loop-pass.cascade i c.in_ok-cascade.field-0 lt c.loop-pass.invariant.serves c.in_ok-cascade.ensures.serves;
     }
@@ -39,7 +36,7 @@ loop-pass-preserved c =
 pub returns-clause-read : goal.returns-clause-read
 unfolding cascade_at
 returns-clause-read c =
-    let m = pass_book_at c.args.books.now c.args.passes in
+    let m = pass_book_at c.args.books.now c.args.flags in
     let all : take c.loop-pass.pass c.loop-pass.cascade ≡ c.loop-pass.cascade = take_all c.loop-pass.pass c.loop-pass.cascade (omega (arith, c.loop-pass.invariant.count)) in
     rw all at (each_number_ends m (take c.loop-pass.pass c.loop-pass.cascade) 8 c.loop-pass.pass c.loop-pass.bits.left _ c.loop-pass.invariant.read (omega arith))
 

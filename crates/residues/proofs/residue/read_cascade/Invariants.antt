@@ -7,7 +7,8 @@ use Rattle.residues.proofs.residue.read_cascade.Given as goal
 
 abbrev pub invariant-loop-pass : goal.invariant-loop-pass
 invariant-loop-pass l = record {
-  read : with_front (take l.pass l.cascade) (each (pass_book_at l.books l.passes) (drop l.pass (range_with_len 0 8)) l.bits.left) ≡ each (pass_book_at l.books l.passes) (range_with_len 0 8) l.fn.bits.left;
+  read : with_front (take l.pass l.cascade) (each (pass_book_at l.books l.flags) (drop l.pass (range_with_len 0 8)) l.bits.left) ≡ each (pass_book_at l.books l.flags) (range_with_len 0 8) l.fn.bits.left;
+  bytes : l.bits.total ≡ l.fn.bits.total;
   count : length l.cascade ≡ 8;
   serves : (k : ℕ) → k < l.pass → IfSome (get_or l.cascade k None) (Serves has_values l.books);
 }

@@ -4,15 +4,15 @@ use Rattle.floor_one.proofs.Between.{low_below, high_above, two_behind, low_is, 
 use Rattle.floor_one.proofs.FinalLists.{next_value, next_flags, finals_are, first_values, first_flags, first_small}
 use Rattle.floor_one.proofs.finals.Finals.new.Goals as goal
 
-pub push_next-requires-clause-low : goal.push_next-requires-clause-low
-push_next-requires-clause-low c =
-    low_below c.args.points.now c.neighbours-neighbours-items.result.now c.loop-i.i (c.loop-i.i + 2) _ c.neighbours-neighbours-items.ensures.value c.loop-i-test.true (omega arith)
-    c.x_values-x_values.result.now (length c.loop-i.finals.items) c.x_values-x_values.ensures.points c.x_values-x_values.ensures.value c.loop-i.invariant.count
-
-pub push_next-requires-clause-high : goal.push_next-requires-clause-high
-push_next-requires-clause-high c =
-    high_above c.args.points.now c.neighbours-neighbours-items.result.now c.loop-i.i (c.loop-i.i + 2) _ c.neighbours-neighbours-items.ensures.value c.loop-i-test.true (omega arith)
-    c.x_values-x_values.result.now (length c.loop-i.finals.items) c.x_values-x_values.ensures.points c.x_values-x_values.ensures.value c.loop-i.invariant.count
+pub push_next-requires-clause-neighbours : goal.push_next-requires-clause-neighbours
+push_next-requires-clause-neighbours c =
+    let xs = c.args.points.now in
+    let are = c.neighbours-neighbours-items.ensures.value in
+    let nearest = c.neighbours-neighbours-items.result.now in
+    let same = c.x_values-x_values.ensures in
+    let low = low_below xs nearest c.loop-i.i (c.loop-i.i + 2) _ are c.loop-i-test.true (omega arith) c.x_values-x_values.result.now (length c.loop-i.finals.items) same.points same.value c.loop-i.invariant.count in
+    let high = high_above xs nearest c.loop-i.i (c.loop-i.i + 2) _ are c.loop-i-test.true (omega arith) c.x_values-x_values.result.now (length c.loop-i.finals.items) same.points same.value c.loop-i.invariant.count in
+    record { low_before = low.before; high_before = high.before; below = low.below; above = high.above }
 
 pub push_next-requires-clause-within : goal.push_next-requires-clause-within
 push_next-requires-clause-within c =
@@ -64,9 +64,9 @@ loop-i-preserved c =
     let inv = c.loop-i.invariant in
     let next : i + 1 + 2 ≡ i + 2 + 1 = omega arith in
     record {
-      count = c.push_next.ensures.count ∙ ap (λ n. n + 1) inv.count ∙ sym next;
-      values = next_value c.args.range xs ys before more (i + 2) here.low here.high y points (omega arith) within inv.count low high refl c.x_values-x_values.result.now c.x_values-x_values.ensures.value inv.values c.push_next.ensures.values (i + 1 + 2) next;
-      flags = next_flags c.args.range xs ys before more (i + 2) here.low here.high y points (omega arith) within inv.count low high refl inv.flags c.push_next.ensures.before c.push_next.ensures.flag (i + 1 + 2) next;
+      count = c.push_next.ensures.next.count ∙ ap (λ n. n + 1) inv.count ∙ sym next;
+      values = next_value c.args.range xs ys before more (i + 2) here.low here.high y points (omega arith) within inv.count low high refl c.x_values-x_values.result.now c.x_values-x_values.ensures.value inv.values c.push_next.ensures.next.values (i + 1 + 2) next;
+      flags = next_flags c.args.range xs ys before more (i + 2) here.low here.high y points (omega arith) within inv.count low high refl inv.flags c.push_next.ensures.next.before c.push_next.ensures.next.flag (i + 1 + 2) next;
       small = c.push_next.ensures.small;
     }
 
