@@ -1,0 +1,2 @@
+mod HeadPlaces
+mod Starts

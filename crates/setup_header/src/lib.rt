@@ -1,0 +1,23 @@
+//! Reads the setup packet of a Vorbis stream and the heads of its audio packets (Vorbis I, sections
+//! 4.2.4 and 4.3.1).
+#![tactic(auto)]
+
+mod faults;
+mod fields;
+mod laws;
+mod mapping;
+mod mode;
+mod packet_head;
+mod parts;
+mod setup;
+mod start;
+mod time_transforms;
+
+pub use laws::head_goes_by_places;
+pub use mapping::{Coupling, Mapping, Submap};
+pub use model_setup::{PacketHead, SetupCause, SetupFault};
+pub use packet_head::head;
+pub use setup::Setup;
+
+#[cfg(test)]
+mod tests;

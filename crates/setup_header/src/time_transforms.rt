@@ -1,0 +1,32 @@
+ghost use Rattle.std.specs.Prelude.{◌≡◌, replicate};
+ghost use Rattle.model_bits.specs.Reading.{leaving};
+ghost use Rattle.model_setup.specs.SetupPacket.{each_number, zero_at, times_at};
+
+use crate::faults::bad;
+use crate::fields::{read_count, read_zero};
+use bit_reader::Bits;
+use model_setup::{SetupCause, SetupFault};
+
+/// Reads so many time domain transforms, each of which must be 0.
+fn read_each_time_transform(bits: &mut Bits, count: u32) -> Result<(), SetupFault>
+    ensures read { each_number (λ number. zero_at 16 (SetupFault.Bad SetupCause.Time number)) count
+        bits.old.left ≡ leaving bits.new.left (λ _. replicate count 0) result }
+    ensures bytes { bits.new.total ≡ bits.old.total }
+{
+    for number in 0..count {
+        read_zero(bits, 16, bad(SetupCause::Time, number))?;
+    }
+    Ok(())
+}
+
+/// Reads the time domain transforms, which are placeholders, and tells how many there are.
+#[tactic(auto, unfolding(model_setup::specs::SetupPacket::times_at))]
+pub fn read_time_transforms(bits: &mut Bits) -> Result<u32, SetupFault>
+    ensures read { times_at bits.old.left
+        ≡ leaving bits.new.left (λ count. replicate count 0) result }
+    ensures bytes { bits.new.total ≡ bits.old.total }
+{
+    let count = read_count(bits, 6)?;
+    read_each_time_transform(bits, count)?;
+    Ok(count)
+}
