@@ -1,0 +1,118 @@
+-- The line of a link, one entry at a time.
+use Rattle.std.proofs.Common.{◌≡◌, ℕ, ◌+◌, ◌-◌, ◌≤◌, ◌<◌, Bool, List, ◌++◌, length, map, drop, get_or, refl, ap, sym, ◌∙◌, arith, ◌⊎◌, inl, inr, append_assoc, Option, Some, None}
+use Rattle.std.specs.Prelude.{IfSome}
+use Rattle.std.specs.List.{range_with_len}
+use Rattle.std.proofs.lemmas.List.{append-nil, at_drop_more, drop_all}
+use Rattle.std.proofs.lemmas.List.FromFn.{length-range_with_len, length-map-range_with_len}
+use Rattle.model_line.specs.declared.trim.Cuts.{Cuts}
+use Rattle.model_line.specs.declared.row.Row.{Row}
+use Rattle.model_line.specs.declared.row.RowKind.{RowKind}
+use Rattle.model_line.specs.declared.row.RowKind.TheVariants.{Block}
+use Rattle.model_line.specs.Decode.{Kind, missing, skipped, decoded, LineItem, frame, frame_count, frames_given, items_given, previous_after, linear_decode}
+use Rattle.model_line.specs.Trim.{trimmed, AtEdge}
+use Rattle.model_line.specs.Origins.{overlap_len, frame_numbers, size_of, kind_of, entry_of, kind_at, number_after, number_behind, numbered_entries, Origin, origin, origins}
+use Rattle.model_line.proofs.Counts.{frame_count-frames, trimmed-append}
+use Rattle.model_line.proofs.Edges.{edge_passed}
+use Rattle.film_index.specs.Listings.{before}
+use Rattle.film_index.proofs.Marks.{no_row}
+
+-- how many frames a block behind another gives
+pub block_count : (short long p size count : ℕ) (is_long : Bool) (kind : RowKind) (previous : Option ℕ) → kind ≡ Block is_long → previous ≡ Some p → size ≡ size_of short long is_long → count ≡ overlap_len p size
+    → length (frames_given frame_numbers (kind_of short long kind) previous) ≡ count
+block_count short long p size count is_long kind previous kind-is previous-is size-is count-is =
+    rw (kind-is, previous-is, count-is, size-is) (length-range_with_len 0 (overlap_len p (size_of short long is_long)))
+
+-- a block behind another
+pub block_row : (cuts : Cuts) (link short long n p size count first block : ℕ) (is_long : Bool) (old now : List (LineItem Origin)) → 0 < n → block ≡ n - 1 → size ≡ size_of short long is_long → count ≡ overlap_len p size
+    → now ≡ old ++ trimmed cuts first (map (frame link) (map (origin block (block + 1)) (range_with_len 0 count)))
+    → now ≡ old ++ trimmed cuts first (items_given link origins (kind_at n (kind_of short long (Block is_long))) (before n (Some p)))
+block_row cuts link short long n p size count first block is_long old now some block-is size-is count-is h =
+    let next : block + 1 ≡ n = omega arith in
+    let here = rw next at h in
+    let there = rw (block-is, count-is, size-is) at here in
+    there
+
+-- ---- what an entry gives and what follows
+
+given_count : (link n : ℕ) (kind : Kind ℕ) (previous : Option ℕ) → frame_count (items_given link origins (kind_at n kind) (before n previous)) ≡ length (frames_given frame_numbers kind previous)
+unfolding frame_count
+given_count link n (missing kind) previous = refl
+given_count link n skipped previous = refl
+given_count link n (decoded size) None = refl
+given_count link n (decoded size) (Some p) =
+    frame_count-frames link (map (origin (n - 1) n) (range_with_len 0 (overlap_len p size)))
+    ∙ length-map-range_with_len (origin (n - 1) n) 0 (overlap_len p size)
+    ∙ sym (length-range_with_len 0 (overlap_len p size))
+
+before_after : (n : ℕ) (kind : Kind ℕ) (previous : Option ℕ) → previous_after (kind_at n kind) (before n previous) ≡ before (number_after n kind) (previous_after kind previous)
+before_after n (missing kind) previous = refl
+before_after n skipped previous = refl
+before_after n (decoded size) previous = let e : n + 1 - 1 ≡ n = omega arith in rw e refl
+
+pub some_after : (n : ℕ) (kind : Kind ℕ) (previous : Option ℕ) → IfSome previous (λ _. 0 < n) → IfSome (previous_after kind previous) (λ _. 0 < number_after n kind)
+some_after n (missing kind) previous some = tt
+some_after n skipped previous some = some
+some_after n (decoded size) previous some = omega arith
+
+-- the items of the entries from one on
+abbrev pub items_behind : ℕ → ℕ → ℕ → ℕ → Option ℕ → List Row → List (LineItem Origin)
+items_behind link short long n previous rows = linear_decode link origins (before n previous) (numbered_entries n (map (entry_of short long) rows))
+
+pub rows_step : (cuts : Cuts) (link short long n next frames given : ℕ) (previous after : Option ℕ) (rows : List Row) (i : ℕ) (old now total : List (LineItem Origin)) → i < length rows
+    → now ≡ old ++ trimmed cuts frames (items_given link origins (kind_at n (kind_of short long (get_or rows i no_row).kind)) (before n previous))
+    → next ≡ number_after n (kind_of short long (get_or rows i no_row).kind)
+    → given ≡ frames + length (frames_given frame_numbers (kind_of short long (get_or rows i no_row).kind) previous)
+    → after ≡ previous_after (kind_of short long (get_or rows i no_row).kind) previous
+    → old ++ trimmed cuts frames (items_behind link short long n previous (drop i rows)) ≡ total
+    → now ++ trimmed cuts given (items_behind link short long next after (drop (i + 1) rows)) ≡ total
+unfolding linear_decode numbered_entries
+rows_step cuts link short long n next frames given previous after rows i old now total lt now-is next-is given-is after-is h =
+    let kind = kind_of short long (get_or rows i no_row).kind in
+    let here = items_given link origins (kind_at n kind) (before n previous) in
+    let rest = items_behind link short long (number_after n kind) (previous_after kind previous) (drop (i + 1) rows) in
+    let more : items_behind link short long n previous (drop i rows) ≡ here ++ rest =
+    at_drop_more (items_behind link short long n previous) rows i no_row lt ∙ ap (λ p. here ++ linear_decode link origins p (numbered_entries (number_after n kind) (map (entry_of short long) (drop (i + 1) rows)))) (before_after n kind previous) in
+    let split = trimmed-append cuts frames here rest ∙ ap (λ k. trimmed cuts frames here ++ trimmed cuts (frames + k) rest) (given_count link n kind previous) in
+    rw (now-is, next-is, given-is, after-is) (
+    append_assoc old (trimmed cuts frames here) (trimmed cuts (frames + length (frames_given frame_numbers kind previous)) rest)
+    ∙ ap (λ xs. old ++ xs) (sym split)
+    ∙ ap (λ xs. old ++ trimmed cuts frames xs) (sym more)
+    ∙ h)
+
+pub rows_end : (cuts : Cuts) (link short long n frames : ℕ) (previous : Option ℕ) (rows : List Row) (i : ℕ) (old total : List (LineItem Origin)) → length rows ≤ i
+    → old ++ trimmed cuts frames (items_behind link short long n previous (drop i rows)) ≡ total → old ≡ total
+unfolding linear_decode numbered_entries trimmed
+rows_end cuts link short long n frames previous rows i old total le h = let here = rw (drop_all i rows le) at h in sym (append-nil old) ∙ here
+
+-- ---- edges
+
+pub edge_here : (short long frames edge : ℕ) (previous : Option ℕ) (rows : List Row) (i : ℕ) → i < length rows → AtEdge frame_numbers edge frames previous (map (entry_of short long) (drop i rows))
+    → (edge ≤ frames) ⊎ (frames + length (frames_given frame_numbers (kind_of short long (get_or rows i no_row).kind) previous) ≤ edge)
+unfolding AtEdge
+edge_here short long frames edge previous rows i lt at =
+    let here = rw (at_drop_more (λ (xs : List Row). xs) rows i no_row lt) at at in
+    elim here [ inl le ↦ inl le | inr more ↦ inr more.0 ]
+
+pub edge_next : (short long frames given edge : ℕ) (previous after : Option ℕ) (rows : List Row) (i : ℕ) → i < length rows
+    → given ≡ frames + length (frames_given frame_numbers (kind_of short long (get_or rows i no_row).kind) previous)
+    → after ≡ previous_after (kind_of short long (get_or rows i no_row).kind) previous
+    → AtEdge frame_numbers edge frames previous (map (entry_of short long) (drop i rows))
+    → AtEdge frame_numbers edge given after (map (entry_of short long) (drop (i + 1) rows))
+unfolding AtEdge
+edge_next short long frames given edge previous after rows i lt given-is after-is at =
+    let here = rw (at_drop_more (λ (xs : List Row). xs) rows i no_row lt) at at in
+    elim here [
+      | inl le ↦ edge_passed frame_numbers edge given after (map (entry_of short long) (drop (i + 1) rows)) (omega arith)
+      | inr more ↦ rw (given-is, after-is) more.1
+    ]
+
+-- ---- numbers of blocks
+
+pub number_next : (short long n next : ℕ) (rows : List Row) (i total : ℕ) → i < length rows → next ≡ number_after n (kind_of short long (get_or rows i no_row).kind)
+    → number_behind n (map (entry_of short long) (drop i rows)) ≡ total → number_behind next (map (entry_of short long) (drop (i + 1) rows)) ≡ total
+unfolding number_behind
+number_next short long n next rows i total lt next-is h = rw next-is (sym (at_drop_more (λ (xs : List Row). number_behind n (map (entry_of short long) xs)) rows i no_row lt) ∙ h)
+
+pub number_end : (short long n : ℕ) (rows : List Row) (i total : ℕ) → length rows ≤ i → number_behind n (map (entry_of short long) (drop i rows)) ≡ total → n ≡ total
+unfolding number_behind
+number_end short long n rows i total le h = rw (drop_all i rows le) at h

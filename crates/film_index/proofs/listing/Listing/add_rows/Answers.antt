@@ -1,0 +1,54 @@
+use Rattle.std.proofs.Common.{◌++◌, refl, ap, sym, arith, map, get_or, None}
+use Rattle.model_line.specs.declared.trim.Cuts.{Cuts}
+use Rattle.model_line.specs.Decode.{linear_decode}
+use Rattle.model_line.specs.Trim.{trimmed}
+use Rattle.model_line.specs.Lines.{link_line}
+use Rattle.model_line.specs.Origins.{entry_of, kind_of, numbered_entries, origins, listed}
+use Rattle.model_line.proofs.Levels.{origins_cuts}
+use Rattle.film_index.proofs.Marks.{no_row}
+use Rattle.film_index.proofs.RowSteps.{rows_step, rows_end, edge_here, edge_next, number_next, number_end, some_after}
+use Rattle.film_index.proofs.listing.Listing.add_rows.Goals as goal
+
+pub loop-row-init : goal.loop-row-init
+unfolding link_line
+loop-row-init c =
+    let entries = map (entry_of c.args.sizes.short c.args.sizes.long) c.args.rows.now in
+    let line = numbered_entries c.args.self.now.blocks entries in
+    record {
+      listed = rw (c.start-walk.ensures.frames, c.start-walk.ensures.previous, c.cuts-cuts.ensures.cuts) (ap (λ (k : Cuts). listed c.args.self.now.items.items ++ trimmed k 0 (linear_decode c.args.link origins None line)) (sym (origins_cuts c.args.self.now.blocks entries)));
+      blocks = refl;
+      right = c.requires.right;
+      grown = record { total = omega arith; gaps = omega arith; blocks = omega arith };
+      edge = rw (c.start-walk.ensures.frames, c.start-walk.ensures.previous) c.cuts-cuts.ensures.edge;
+      fits = rw c.start-walk.ensures.previous tt;
+      some = rw c.start-walk.ensures.previous tt;
+      frames = omega arith;
+    }
+
+pub add_row-requires-clause-edge : goal.add_row-requires-clause-edge
+add_row-requires-clause-edge c = edge_here c.args.sizes.short c.args.sizes.long c.loop-row.walk.frames c.cuts-cuts.result.end.to c.loop-row.walk.previous c.args.rows.now c.loop-row.row-index c.loop-row-test.true c.loop-row.invariant.edge
+
+pub loop-row-preserved : goal.loop-row-preserved
+loop-row-preserved c =
+    let short = c.args.sizes.short in
+    let long = c.args.sizes.long in
+    let rows = c.args.rows.now in
+    let i = c.loop-row.row-index in
+    let old = c.loop-row.invariant in
+    let added = c.in_ok-add_row.ensures in
+    record {
+      listed = rows_step c.cuts-cuts.result c.args.link short long c.loop-row.self.blocks _ c.loop-row.walk.frames _ c.loop-row.walk.previous _ rows i _ _ _ c.loop-row-test.true added.listed added.blocks c.pass.ensures.frames c.pass.ensures.previous old.listed;
+      blocks = number_next short long c.loop-row.self.blocks _ rows i _ c.loop-row-test.true added.blocks old.blocks;
+      right = added.right;
+      grown = record { total = omega (arith, added.grown); gaps = omega (arith, added.grown); blocks = omega (arith, added.grown) };
+      edge = edge_next short long c.loop-row.walk.frames _ c.cuts-cuts.result.end.to c.loop-row.walk.previous _ rows i c.loop-row-test.true c.pass.ensures.frames c.pass.ensures.previous old.edge;
+      fits = c.pass.ensures.fits;
+      some = rw (c.pass.ensures.previous, added.blocks) (some_after c.loop-row.self.blocks (kind_of short long (get_or rows i no_row).kind) c.loop-row.walk.previous old.some);
+      frames = omega arith;
+    }
+
+pub returns-clause-listed : goal.returns-clause-listed
+returns-clause-listed c = rows_end c.cuts-cuts.result c.args.link c.args.sizes.short c.args.sizes.long c.loop-row.self.blocks c.loop-row.walk.frames c.loop-row.walk.previous c.args.rows.now c.loop-row.row-index _ _ c.loop-row-test.false c.loop-row.invariant.listed
+
+pub returns-clause-blocks : goal.returns-clause-blocks
+returns-clause-blocks c = number_end c.args.sizes.short c.args.sizes.long c.loop-row.self.blocks c.args.rows.now c.loop-row.row-index _ c.loop-row-test.false c.loop-row.invariant.blocks

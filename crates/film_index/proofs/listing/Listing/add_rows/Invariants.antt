@@ -1,0 +1,22 @@
+use Rattle.std.proofs.Common.{◌≡◌, ◌-◌, ◌*◌, ◌<◌, ◌≤◌, ◌++◌, map, drop}
+use Rattle.std.specs.Prelude.{IfSome}
+use Rattle.model_line.specs.Trim.{trimmed, AtEdge}
+use Rattle.model_line.specs.Lines.{link_line}
+use Rattle.model_line.specs.Origins.{frame_numbers, entry_of, number_behind, numbered_entries, origins, listed}
+use Rattle.film_index.specs.Bounds.{most_overlap, FitsSize}
+use Rattle.film_index.specs.Listings.{IsListing, HasGrown}
+use Rattle.film_index.proofs.RowSteps.{items_behind}
+use Rattle.film_index.proofs.listing.Listing.add_rows.Given as goal
+
+abbrev pub invariant-loop-row : goal.invariant-loop-row
+invariant-loop-row l = record {
+  listed : listed l.self.items.items ++ trimmed l.cuts l.walk.frames (items_behind l.link l.sizes.short l.sizes.long l.self.blocks l.walk.previous (drop l.row-index l.rows))
+      ≡ listed l.fn.self.items.items ++ link_line l.link origins (numbered_entries l.fn.self.blocks (map (entry_of l.sizes.short l.sizes.long) l.rows));
+  blocks : number_behind l.self.blocks (map (entry_of l.sizes.short l.sizes.long) (drop l.row-index l.rows)) ≡ number_behind l.fn.self.blocks (map (entry_of l.sizes.short l.sizes.long) l.rows);
+  right : IsListing (l.self.blocks - 1) l.self;
+  grown : HasGrown l.fn.self l.self l.row-index;
+  edge : AtEdge frame_numbers l.cuts.end.to l.walk.frames l.walk.previous (map (entry_of l.sizes.short l.sizes.long) (drop l.row-index l.rows));
+  fits : IfSome l.walk.previous FitsSize;
+  some : IfSome l.walk.previous (λ _. 0 < l.self.blocks);
+  frames : l.walk.frames ≤ most_overlap * l.row-index;
+}
