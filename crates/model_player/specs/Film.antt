@@ -1,130 +1,117 @@
--- What is told of a film, or why it is refused.
-use Rattle.std.specs.Prelude.{◌≡◌, ℕ, ◌+◌, ◌-◌, ◌^◌, Bool, true, false, nat_lt, if◌then◌else◌, List, [], ◌∷◌, ◌++◌, length, drop, count_by, Option, Some, None, Result, Ok, Err}
+-- What is said of a film, or why it is refused.
+use Rattle.std.specs.Prelude.{ℕ, ◌+◌, ◌-◌, Bool, true, false, List, [], ◌∷◌, length, count_by, Option, Some, None, Result, Ok, Err}
+use Rattle.std.specs.Option.{option_map_or}
+use Rattle.std.specs.Result.{result_unwrap_or}
 use Rattle.model_ogg.specs.declared.page.PageRef.{PageRef}
+use Rattle.model_ogg.specs.declared.link.LinkFault.{LinkFault}
 use Rattle.model_ogg.specs.declared.link.LinkPages.{LinkPages}
-use Rattle.model_ogg.specs.declared.entry.Entry.{Entry}
-use Rattle.model_ogg.specs.declared.entry.Entry.TheVariants.{Packet, Lost}
 use Rattle.model_ogg.specs.Pages.{pages}
 use Rattle.model_ogg.specs.Entries.{StreamItem, packet, lost, stream_items}
-use Rattle.model_ogg.specs.Links.{LinkRefusal, no_link, no_vorbis, too_many_links, film_links, played_pages}
+use Rattle.model_ogg.specs.Links.{film_links, played_pages}
 use Rattle.model_setup.specs.declared.head.IdentFields.{IdentFields}
-use Rattle.model_setup.specs.declared.head.IdentCause.{IdentCause}
-use Rattle.model_setup.specs.declared.head.CommentCause.{CommentCause}
-use Rattle.model_setup.specs.HeaderPackets.{ident_of, comment_of}
-use Rattle.model_player.specs.declared.line.LinkLine.{LinkLine}
-use Rattle.model_player.specs.declared.line.HeadLine.{HeadLine}
-use Rattle.model_player.specs.declared.line.LinkTold.{LinkTold}
+use Rattle.model_setup.specs.HeaderPackets.{ident_of}
+use Rattle.model_line.specs.declared.row.TheConstants.{MOST_ENTRIES}
+use Rattle.model_player.specs.declared.link.LinkCounts.{LinkCounts}
+use Rattle.model_player.specs.declared.link.LinkInfo.{LinkInfo}
 use Rattle.model_player.specs.declared.film.FilmFault.{FilmFault}
-use Rattle.model_player.specs.declared.film.FilmFault.TheVariants as faults
+use Rattle.model_player.specs.LinkFaults.{of_links}
+use Rattle.model_player.specs.LinkTests.{headers_of, too_many_packets, headers_missing, wrong_ident, too_many_channels, wrong_comment}
+
+-- ---- the order of a film's faults
+
+-- The first fault that is found refuses the film. They are looked for in this order:
+-- 1. NoLink, where the film has no link at all (`film_links` of model_ogg);
+-- 2. for each link in order TooManyLinks, where it is past the most that a film may have, or
+-- NoVorbis, where it has no Vorbis stream (`film_links` too);
+-- 3. for each link in order the tests of `link_tests`, from the first to the last:
+-- TooManyPackets, HeadMissing, Ident, Channels, Comment.
+
+-- the tests of a link's headers: its number, and its identification and comment packet if all three
+-- headers are there
+abbrev pub header_tests : ℕ → Option (List ℕ × List ℕ) → List (Option FilmFault)
+header_tests number headers =
+    headers_missing number headers
+    ∷ wrong_ident number headers
+    ∷ too_many_channels number headers
+    ∷ wrong_comment number headers
+    ∷ []
+
+-- the tests of a link: its number, how many entries may still come, and those of its stream
+abbrev pub link_tests : ℕ → ℕ → List StreamItem → List (Option FilmFault)
+link_tests number left items =
+    too_many_packets left items ∷ header_tests number (headers_of items)
+
+-- the first fault that is found
+abbrev pub first_fault : List (Option FilmFault) → Option FilmFault
+first_fault [] = None
+first_fault (Some fault ∷ tests) = Some fault
+first_fault (None ∷ tests) = first_fault tests
+
+-- a value, unless a fault is found
+abbrev pub unless : {A : Type 0} → Option FilmFault → A → Result A FilmFault
+unless None value = Ok value
+unless (Some fault) value = Err fault
+
+-- ---- one link
 
 abbrev pub is_packet : StreamItem → Bool
 is_packet (packet bytes mark) = true
 is_packet lost = false
 
--- the same of the program's entries
-abbrev pub is_packet_entry : Entry → Bool
-is_packet_entry (Packet pieces mark) = true
-is_packet_entry Lost = false
-
--- the most packets and losses that a film may have
-abbrev pub most_entries : ℕ
-most_entries = 2 ^ 22
-
--- the most channels that a link may have
-abbrev pub most_channels : ℕ
-most_channels = 8
-
--- ---- one link: its number, its stream's pages and entries
-
-abbrev pub line_of : ℕ → ℕ → List PageRef → List StreamItem → LinkLine
-line_of number serial stream items = record {
-  link = number;
+-- the numbers of a link: its stream's serial number, pages and entries
+abbrev pub counts_of : ℕ → List PageRef → List StreamItem → LinkCounts
+counts_of serial stream items = record {
   serial = serial;
   pages = length stream;
   packets = count_by is_packet items;
   lost = length items - count_by is_packet items;
 }
 
--- the first entry's bytes, if it is a packet
-abbrev pub first_packet : List StreamItem → Option (List ℕ)
-first_packet [] = None
-first_packet (packet bytes mark ∷ items) = Some bytes
-first_packet (lost ∷ items) = None
+-- what stands for an identification where a test finds that there is none
+abbrev pub no_fields : IdentFields
+no_fields = record { channels = 0; rate = 0; short = 0; long = 0 }
 
-abbrev pub head_line : ℕ → IdentFields → HeadLine
-head_line number fields = record { link = number; channels = fields.channels; rate = fields.rate; short = fields.short; long = fields.long }
+-- what the identification of these headers says
+abbrev pub ident_in : Option (List ℕ × List ℕ) → IdentFields
+ident_in headers =
+    option_map_or (λ (h : List ℕ × List ℕ). result_unwrap_or (ident_of h.0) no_fields) headers
+    no_fields
 
--- by the comment, behind a right identification
-abbrev pub comment_head : ℕ → IdentFields → Result ℕ CommentCause → Result HeadLine FilmFault
-comment_head number fields (Ok texts) = Ok (head_line number fields)
-comment_head number fields (Err cause) = Err (faults.Comment number cause)
+-- what the identification of a link of this number says, or the first fault of its headers
+abbrev pub link_ident : ℕ → List StreamItem → Result IdentFields FilmFault
+link_ident number items =
+    unless (first_fault (header_tests number (headers_of items))) (ident_in (headers_of items))
 
--- by the identification, then the comment: more than 8 channels are told before a wrong comment
-abbrev pub ident_head : ℕ → Result IdentFields IdentCause → Result ℕ CommentCause → Result HeadLine FilmFault
-ident_head number (Ok fields) comment = if nat_lt most_channels fields.channels then Err (faults.Channels number fields.channels) else comment_head number fields comment
-ident_head number (Err cause) comment = Err (faults.Ident number cause)
-
--- the first two packets, where there are three
-abbrev pub three_packets : Option (List ℕ) → Option (List ℕ) → Option (List ℕ) → Option (List ℕ × List ℕ)
-three_packets (Some ident) (Some comment) (Some setup) = Some (ident, comment)
-three_packets (Some ident) (Some comment) None = None
-three_packets (Some ident) None setup = None
-three_packets None comment setup = None
-
--- the identification and the comment of a stream whose first three entries, its headers, are packets; a setup is only
--- asked to be there
-unfoldable pub headers_of : List StreamItem → Option (List ℕ × List ℕ)
-headers_of items = three_packets (first_packet items) (first_packet (drop 1 items)) (first_packet (drop 2 items))
-
-abbrev pub headers_head : ℕ → Option (List ℕ × List ℕ) → Result HeadLine FilmFault
-headers_head number None = Err (faults.HeadMissing number)
-headers_head number (Some (ident, comment)) = ident_head number (ident_of ident) (comment_of comment)
-
--- what a link's headers say
-abbrev pub head_of : ℕ → List StreamItem → Result HeadLine FilmFault
-head_of number items = headers_head number (headers_of items)
-
-abbrev pub with_head : LinkLine → Result HeadLine FilmFault → Result LinkTold FilmFault
-with_head line (Ok head) = Ok (record { line = line; head = head })
-with_head line (Err fault) = Err fault
-
--- what is told of a link, where so many entries more may come
-unfoldable pub link_told : ℕ → ℕ → ℕ → List PageRef → List StreamItem → Result LinkTold FilmFault
-link_told number left serial stream items =
-    if nat_lt left (length items) then Err faults.TooManyPackets
-    else with_head (line_of number serial stream items) (head_of number items)
+-- what is said of a link of this number, where so many entries may still come, or its first fault
+unfoldable pub link_info : ℕ → ℕ → ℕ → List PageRef → List StreamItem → Result LinkInfo FilmFault
+link_info number left serial stream items =
+    unless (first_fault (link_tests number left items))
+    (record { counts = counts_of serial stream items; ident = ident_in (headers_of items) })
 
 -- ---- the links of a film, in order
 
 -- a link before others, or the first fault
-abbrev pub with_link : Result LinkTold FilmFault → Result (List LinkTold) FilmFault → Result (List LinkTold) FilmFault
+abbrev pub with_link : Result LinkInfo FilmFault → Result (List LinkInfo) FilmFault
+    → Result (List LinkInfo) FilmFault
 with_link (Err fault) others = Err fault
-with_link (Ok told) (Err fault) = Err fault
-with_link (Ok told) (Ok others) = Ok (told ∷ others)
+with_link (Ok info) (Err fault) = Err fault
+with_link (Ok info) (Ok others) = Ok (info ∷ others)
 
--- the links from one of this number on, where so many entries more may come
-unfoldable pub links_told : List ℕ → List PageRef → ℕ → ℕ → List LinkPages → Result (List LinkTold) FilmFault
-links_told bytes ps number left [] = Ok []
-links_told bytes ps number left (link ∷ links) =
+-- the links from one of this number on, where so many entries may still come
+unfoldable pub links_info : List ℕ → List PageRef → ℕ → ℕ → List LinkPages
+    → Result (List LinkInfo) FilmFault
+links_info bytes ps number left [] = Ok []
+links_info bytes ps number left (link ∷ links) =
     let items = stream_items bytes (played_pages ps link) in
-    with_link (link_told number left link.serial (played_pages ps link) items) (links_told bytes ps (number + 1) (left - length items) links)
+    with_link (link_info number left link.serial (played_pages ps link) items)
+    (links_info bytes ps (number + 1) (left - length items) links)
 
-abbrev pub refusal_fault : LinkRefusal → FilmFault
-refusal_fault no_link = faults.NoLink
-refusal_fault (no_vorbis link) = faults.NoVorbis link
-refusal_fault too_many_links = faults.TooManyLinks
+-- by the links of the film
+abbrev pub info_of : List ℕ → List PageRef → Result (List LinkPages) LinkFault
+    → Result (List LinkInfo) FilmFault
+info_of bytes ps (Ok links) = links_info bytes ps 0 MOST_ENTRIES links
+info_of bytes ps (Err fault) = Err (of_links fault)
 
-abbrev pub told_of : List ℕ → List PageRef → Result (List LinkPages) LinkRefusal → Result (List LinkTold) FilmFault
-told_of bytes ps (Ok links) = links_told bytes ps 0 most_entries links
-told_of bytes ps (Err refusal) = Err (refusal_fault refusal)
-
--- What is told of a film, link by link, or the first fault: those of its links, then for each link in order too many
--- entries, missing headers, the identification, too many channels, the comment.
-unfoldable pub film_told : List ℕ → Result (List LinkTold) FilmFault
-film_told bytes = told_of bytes (pages bytes 0) (film_links bytes (pages bytes 0))
-
--- what a call gave is what is told, unless memory ran out
-abbrev pub Tells : {X A : Type 0} → (X → A) → Result X FilmFault → Result A FilmFault → Type 0
-Tells view (Ok given) told = told ≡ Ok (view given)
-Tells view (Err faults.Memory) told = Unit {0}
-Tells view (Err fault) told = told ≡ Err fault
+-- what is said of a film, link by link, or the first fault
+unfoldable pub film_info : List ℕ → Result (List LinkInfo) FilmFault
+film_info bytes = info_of bytes (pages bytes 0) (film_links bytes (pages bytes 0))

@@ -1,4 +1,6 @@
 pub mod Commands
+pub mod LinkFaults
+pub mod LinkTests
 pub mod Film
 pub mod Texts
 pub mod Outcome

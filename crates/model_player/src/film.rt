@@ -1,6 +1,7 @@
 ghost use Rattle.std.specs.Prelude.{◌≡◌};
 ghost use Rattle.model_player.specs.declared.film.FilmFault.TheVariants.{Memory};
 
+use model_ogg::LinkFault;
 use model_setup::{CommentCause, IdentCause};
 use sequence::NoMemory;
 use std::alloc::{AllocError, AllocFailed};
@@ -20,11 +21,11 @@ pub enum FilmFault {
     Ident { link: u32, cause: IdentCause },
     /// A link's second packet is no comment.
     Comment { link: u32, cause: CommentCause },
-    /// A link has more than 8 channels.
+    /// A link has more than `MOST_CHANNELS` channels.
     Channels { link: u32, n: u8 },
-    /// There are more than 4096 links.
+    /// There are more than `MOST_LINKS` links.
     TooManyLinks,
-    /// There are more than 2^22 packets and losses.
+    /// There are more than `MOST_ENTRIES` packets and losses.
     TooManyPackets,
     /// No memory was found.
     Memory,
@@ -53,8 +54,23 @@ impl fmt::Display for FilmFault {
 
 impl Error for FilmFault {}
 
+impl From<LinkFault> for FilmFault {
+    ghost use Rattle.model_player.specs.LinkFaults.{of_links};
+
+    ghost from_gives = { λ links fault. fault ≡ of_links links };
+
+    fn from(links: LinkFault) -> Self {
+        match links {
+            LinkFault::NoLink => FilmFault::NoLink,
+            LinkFault::NoVorbis { link } => FilmFault::NoVorbis { link },
+            LinkFault::TooManyLinks => FilmFault::TooManyLinks,
+            LinkFault::Memory => FilmFault::Memory,
+        }
+    }
+}
+
 impl From<NoMemory> for FilmFault {
-    ghost from_gives = { λ _ e. e ≡ Memory };
+    ghost from_gives = { λ _ fault. fault ≡ Memory };
 
     fn from(_: NoMemory) -> Self {
         FilmFault::Memory
@@ -62,7 +78,7 @@ impl From<NoMemory> for FilmFault {
 }
 
 impl From<AllocError> for FilmFault {
-    ghost from_gives = { λ _ e. e ≡ Memory };
+    ghost from_gives = { λ _ fault. fault ≡ Memory };
 
     fn from(_: AllocError) -> Self {
         FilmFault::Memory
@@ -70,7 +86,7 @@ impl From<AllocError> for FilmFault {
 }
 
 impl<T: Drop> From<AllocFailed<T>> for FilmFault {
-    ghost from_gives = { λ _ e. e ≡ Memory };
+    ghost from_gives = { λ _ fault. fault ≡ Memory };
 
     fn from(_: AllocFailed<T>) -> Self {
         FilmFault::Memory

@@ -1,4 +1,5 @@
-//! The player's program: the words after its name are a command, and its exit code is the status of the run.
+//! The player's program: the words after its name are a command, and its exit code is the status of
+//! the run.
 #![tactic(auto)]
 
 use player_session::{Status, player};
@@ -7,7 +8,7 @@ use std::rt::Env;
 use std::{env, io};
 use vf_outside::{FileShelf, OpenGate, StdSink};
 
-// The words after the program's name. Words that are no text are one word that is no command.
+/// The words after the program's name. Words that are no text are no words, which is no command.
 fn words<R: Env + AllocGlobal>(rt: &R) -> Result<Vec<String>, Status> {
     match env::args(rt) {
         Ok(args) => args.skip(1).collect(rt.alloc()).map_err(|_| Status::Memory),

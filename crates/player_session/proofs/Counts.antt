@@ -1,11 +1,13 @@
 -- What the entries of the program count.
-use Rattle.std.proofs.Common.{◌≡◌, ℕ, ◌+◌, Bool, cond, List, [], ◌∷◌, length, map, count_by, refl, sym, ap, ◌∙◌}
+use Rattle.std.proofs.Common.{◌≡◌, ℕ, ◌+◌, Bool, cond, List, [], ◌∷◌, length, count_by, refl, sym, ap, ◌∙◌}
 use Rattle.std.proofs.lemmas.List.{length-map}
 use Rattle.std.proofs.lemmas.List.Sums.{sum_by-cons}
-use Rattle.model_ogg.specs.declared.entry.Entry.{Entry}
-use Rattle.model_ogg.specs.declared.entry.Entry.TheVariants.{Packet, Lost}
-use Rattle.model_ogg.specs.Entries.{StreamItem, item_of, items_of}
-use Rattle.model_player.specs.Film.{is_packet, is_packet_entry}
+use Rattle.model_ogg.specs.Entries.{StreamItem}
+use Rattle.ogg_packets.specs.declared.entry.Entry.{Entry}
+use Rattle.ogg_packets.specs.declared.entry.Entry.TheVariants.{Packet, Lost}
+use Rattle.ogg_packets.specs.Entries.{item_of, items_of}
+use Rattle.model_player.specs.Film.{is_packet}
+use Rattle.player_session.specs.Entries.{is_packet_entry}
 
 is_packet-item_of : (bytes : List ℕ) (e : Entry) → is_packet (item_of bytes e) ≡ is_packet_entry e
 is_packet-item_of bytes (Packet pieces mark) = refl

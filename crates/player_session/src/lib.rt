@@ -5,13 +5,14 @@ mod command;
 mod film;
 mod headers;
 mod info;
-mod tell;
+mod notes;
+mod texts;
 mod top;
 
-pub use film::{MOST_ENTRIES, film_told};
-pub use headers::MOST_CHANNELS;
-pub use info::FILM_LIMIT;
-pub use model_player::{FilmFault, HeadLine, LinkLine, LinkTold, Status};
+pub use film::film_info;
+pub use model_player::{
+    FILM_LIMIT, FilmFault, IdentFields, LinkCounts, LinkInfo, MOST_CHANNELS, MOST_ENTRIES, Status,
+};
 pub use top::{player, player_alone};
 
 #[cfg(test)]

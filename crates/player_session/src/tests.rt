@@ -1,12 +1,41 @@
 mod films;
+mod library_example;
 
 use super::*;
 use std::alloc::{AllocError, Global};
 use std::process::Abort;
 use std::test::Fail;
-use vf_outside::{CleanShelf, CleanSink, MemShelf, MemSink, OpenGate};
+use vf_outside::{
+    CleanShelf, CleanSink, FetchFault, MemShelf, MemSink, OpenGate, PutFault, Shelf, Sink,
+};
 
-// A run over memory.
+/// A film, by its parts.
+type Parts = &'static [&'static [u8]];
+
+/// The bytes of a film of these parts, one after the other.
+fn joined(alloc: Global, parts: &[&[u8]]) -> Result<Vec<u8>, AllocError> {
+    let mut film = Vec::new(alloc);
+    for part in parts {
+        film.extend_from_slice(part)?;
+    }
+    Ok(film)
+}
+
+/// The numbers of the calls that fail.
+#[derive(Clone, Copy)]
+struct Failing {
+    shelf: &'static [u64],
+    out: &'static [u64],
+    notes: &'static [u64],
+}
+
+const NOTHING_FAILS: Failing = Failing {
+    shelf: &[],
+    out: &[],
+    notes: &[],
+};
+
+/// A run over memory.
 #[derive(Drop)]
 struct Run {
     status: Status,
@@ -14,30 +43,35 @@ struct Run {
     notes: MemSink,
 }
 
-// Runs these words over a shelf that holds a film under the name `f`. The calls with these numbers fail.
-fn run_words(
-    alloc: Global,
-    words: &[&str],
-    film: &[u8],
-    shelf_failing: &[u64],
-    out_failing: &[u64],
-    notes_failing: &[u64],
-) -> Result<Run, AllocError> {
+/// These words, as the program has them.
+fn words_of(alloc: Global, words: &[&str]) -> Result<Vec<String>, AllocError> {
     let mut given = Vec::new(alloc);
     for word in words {
         given.push(String::from_str(alloc, word)?)?;
     }
-    let mut shelf = MemShelf::new(alloc, files_of(alloc, film)?, shelf_failing.to_vec(alloc)?);
-    let mut out = MemSink::new(alloc, out_failing.to_vec(alloc)?);
-    let mut notes = MemSink::new(alloc, notes_failing.to_vec(alloc)?);
-    let status = player(alloc, &given, &mut shelf, &mut out, &mut notes, &OpenGate);
-    Ok(Run { status, out, notes })
+    Ok(given)
 }
 
+/// A film under the name `f`.
 fn files_of(alloc: Global, film: &[u8]) -> Result<Vec<(String, Vec<u8>)>, AllocError> {
     let mut files = Vec::new(alloc);
     files.push((String::from_str(alloc, "f")?, film.to_vec(alloc)?))?;
     Ok(files)
+}
+
+/// Runs these words over a shelf that holds a film under the name `f`.
+fn run_words(
+    alloc: Global,
+    words: &[&str],
+    film: &[u8],
+    failing: Failing,
+) -> Result<Run, AllocError> {
+    let words = words_of(alloc, words)?;
+    let mut shelf = MemShelf::new(alloc, files_of(alloc, film)?, failing.shelf.to_vec(alloc)?);
+    let mut out = MemSink::new(alloc, failing.out.to_vec(alloc)?);
+    let mut notes = MemSink::new(alloc, failing.notes.to_vec(alloc)?);
+    let status = player(alloc, &words, &mut shelf, &mut out, &mut notes, &OpenGate);
+    Ok(Run { status, out, notes })
 }
 
 fn assert_ends(rt: &impl Abort, case: &str, run: &Run, status: Status, out: &[u8], notes: &[u8]) {
@@ -48,243 +82,349 @@ fn assert_ends(rt: &impl Abort, case: &str, run: &Run, status: Status, out: &[u8
 
 const HEAD: &str = "head 0 channels 1 rate 8000 blocks 64 64\n";
 
+/// Films of one link: what each shows, its parts, and what `info` counts.
+const ONE_LINK: [(&str, Parts, &str); 11] = [
+    ("base", &films::BASE, "pages 3 packets 5 lost 0"),
+    (
+        "an empty packet",
+        &films::EMPTY_PACKET,
+        "pages 3 packets 6 lost 0",
+    ),
+    (
+        "a page missing",
+        &films::PAGE_MISSING,
+        "pages 4 packets 7 lost 1",
+    ),
+    (
+        "a body changed",
+        &films::BODY_CHANGED,
+        "pages 2 packets 3 lost 0",
+    ),
+    (
+        "garbage between",
+        &films::GARBAGE_BETWEEN,
+        "pages 3 packets 5 lost 0",
+    ),
+    (
+        "a page after the last",
+        &films::THIRD_PAGE_AGAIN,
+        "pages 3 packets 5 lost 0",
+    ),
+    (
+        "a page twice",
+        &films::SECOND_PAGE_TWICE,
+        "pages 4 packets 7 lost 1",
+    ),
+    (
+        "a packet over three pages",
+        &films::THREE_PAGE_PACKET,
+        "pages 5 packets 4 lost 0",
+    ),
+    (
+        "nothing to go on with",
+        &films::CONTINUES_NOTHING,
+        "pages 4 packets 6 lost 1",
+    ),
+    (
+        "a page without segments",
+        &films::EMPTY_PAGE,
+        "pages 5 packets 4 lost 0",
+    ),
+    (
+        "numbers that wrap",
+        &films::NUMBERS_WRAP,
+        "pages 3 packets 5 lost 0",
+    ),
+];
+
 #[test]
 fn films_of_one_link(rt: HostRuntime) -> Result<(), Fail> {
-    let rows = [
-        ("base", films::BASE.as_slice(), "pages 3 packets 5 lost 0"),
-        (
-            "an empty packet",
-            films::EMPTY_PACKET.as_slice(),
-            "pages 3 packets 6 lost 0",
-        ),
-        (
-            "a page missing",
-            films::PAGE_MISSING.as_slice(),
-            "pages 4 packets 7 lost 1",
-        ),
-        (
-            "a body changed",
-            films::BODY_CHANGED.as_slice(),
-            "pages 2 packets 3 lost 0",
-        ),
-        (
-            "garbage between",
-            films::GARBAGE_BETWEEN.as_slice(),
-            "pages 3 packets 5 lost 0",
-        ),
-        (
-            "a page after the last",
-            films::THIRD_PAGE_AGAIN.as_slice(),
-            "pages 3 packets 5 lost 0",
-        ),
-        (
-            "a page twice",
-            films::SECOND_PAGE_TWICE.as_slice(),
-            "pages 4 packets 7 lost 1",
-        ),
-        (
-            "a packet over three pages",
-            films::THREE_PAGE_PACKET.as_slice(),
-            "pages 5 packets 4 lost 0",
-        ),
-        (
-            "nothing to go on with",
-            films::CONTINUES_NOTHING.as_slice(),
-            "pages 4 packets 6 lost 1",
-        ),
-        (
-            "a page without segments",
-            films::EMPTY_PAGE.as_slice(),
-            "pages 5 packets 4 lost 0",
-        ),
-        (
-            "numbers that wrap",
-            films::NUMBERS_WRAP.as_slice(),
-            "pages 3 packets 5 lost 0",
-        ),
-    ];
-    for (case, film, counts) in rows {
-        let run = run_words(rt.alloc(), &["info", "f"], film, &[], &[], &[])?;
+    for (case, parts, counts) in ONE_LINK {
+        let film = joined(rt.alloc(), parts)?;
+        let run = run_words(rt.alloc(), &["info", "f"], &film, NOTHING_FAILS)?;
         let lines = format!(in rt.alloc(); "link 0 serial 1 {counts}\n{HEAD}")?;
         assert_ends(&rt, case, &run, Status::Ok, lines.as_bytes(), b"");
     }
     Ok(())
 }
 
-#[test]
-fn chains_and_streams(rt: HostRuntime) -> Result<(), Fail> {
-    let chain = run_words(rt.alloc(), &["info", "f"], &films::CHAIN, &[], &[], &[])?;
-    let lines = b"link 0 serial 1 pages 3 packets 6 lost 0
+/// Films of more links or streams: what each shows, its parts, and what `info` writes.
+const MORE_LINKS: [(&str, Parts, &str); 2] = [
+    (
+        "a chain",
+        &films::CHAIN,
+        "link 0 serial 1 pages 3 packets 6 lost 0
 head 0 channels 1 rate 8000 blocks 64 64
 link 1 serial 2 pages 3 packets 6 lost 0
 head 1 channels 1 rate 16000 blocks 64 64
-";
-    assert_ends(&rt, "a chain", &chain, Status::Ok, lines, b"");
-    let streams = run_words(
-        rt.alloc(),
-        &["info", "f"],
+",
+    ),
+    (
+        "two streams",
         &films::TWO_STREAMS,
-        &[],
-        &[],
-        &[],
-    )?;
-    let lines = b"link 0 serial 1 pages 3 packets 5 lost 0
+        "link 0 serial 1 pages 3 packets 5 lost 0
 head 0 channels 2 rate 8000 blocks 64 64
-";
-    assert_ends(&rt, "two streams", &streams, Status::Ok, lines, b"");
+",
+    ),
+];
 
-    let most = base_films(rt.alloc(), 4096)?;
-    let most = run_words(rt.alloc(), &["info", "f"], &most, &[], &[], &[])?;
-    assert_eq!(rt; most.status, Status::Ok);
-    let many = base_films(rt.alloc(), 4097)?;
-    let many = run_words(rt.alloc(), &["info", "f"], &many, &[], &[], &[])?;
-    assert_ends(
-        &rt,
-        "4097 links",
-        &many,
-        Status::Film,
-        b"",
-        b"film too many links\n",
-    );
+#[test]
+fn chains_and_streams(rt: HostRuntime) -> Result<(), Fail> {
+    for (case, parts, lines) in MORE_LINKS {
+        let film = joined(rt.alloc(), parts)?;
+        let run = run_words(rt.alloc(), &["info", "f"], &film, NOTHING_FAILS)?;
+        assert_ends(&rt, case, &run, Status::Ok, lines.as_bytes(), b"");
+    }
     Ok(())
 }
 
-// So many base films, one after the other.
+/// So many base films, one after the other.
 fn base_films(alloc: Global, count: u32) -> Result<Vec<u8>, AllocError> {
+    let base = joined(alloc, &films::BASE)?;
     let mut chain = Vec::new(alloc);
     for _ in 0..count {
-        chain.extend_from_slice(&films::BASE)?;
+        chain.extend_from_slice(&base)?;
     }
     Ok(chain)
 }
 
 #[test]
+fn the_most_links(rt: HostRuntime) -> Result<(), Fail> {
+    let most = base_films(rt.alloc(), 4096)?;
+    let most = run_words(rt.alloc(), &["info", "f"], &most, NOTHING_FAILS)?;
+    assert_eq!(rt; most.status, Status::Ok);
+    let many = base_films(rt.alloc(), 4097)?;
+    let many = run_words(rt.alloc(), &["info", "f"], &many, NOTHING_FAILS)?;
+    let line = b"film too many links\n";
+    assert_ends(&rt, "4097 links", &many, Status::Film, b"", line);
+    Ok(())
+}
+
+/// Words that are refused with a film that is none: what each shows, the words, the status, and the
+/// text of the line.
+const REFUSED_WORDS: [(&str, &[&str], Status, &str); 5] = [
+    ("no words", &[], Status::Usage, "usage"),
+    ("two names", &["info", "a", "b"], Status::Usage, "usage"),
+    ("another word", &["inf", "f"], Status::Usage, "usage"),
+    (
+        "no such name",
+        &["info", "g"],
+        Status::Input,
+        "cannot read g",
+    ),
+    ("no bytes", &["info", "f"], Status::Film, "film no link"),
+];
+
+/// Films that are refused: what each shows, its parts, and the text of the line.
+const REFUSED_FILMS: [(&str, Parts, &str); 8] = [
+    ("another codec", &films::NO_VORBIS, "film link 0 no vorbis"),
+    (
+        "no second page",
+        &films::NO_SECOND_PAGE,
+        "film link 0 headers missing",
+    ),
+    (
+        "one page",
+        &films::FIRST_PAGE_ALONE,
+        "film link 0 headers missing",
+    ),
+    (
+        "pages exchanged",
+        &films::PAGES_EXCHANGED,
+        "film link 0 headers missing",
+    ),
+    (
+        "nine channels",
+        &films::NINE_CHANNELS,
+        "film link 0 channels 9",
+    ),
+    (
+        "channels and comment",
+        &films::NINE_CHANNELS_AND_COMMENT,
+        "film link 0 channels 9",
+    ),
+    (
+        "a comment",
+        &films::WRONG_COMMENT,
+        "film link 0 comment framing",
+    ),
+    (
+        "a version",
+        &films::WRONG_VERSION,
+        "film link 0 ident version",
+    ),
+];
+
+/// Runs words that are refused with this status and this text: the line is on `notes`, or the
+/// status is 7 where it cannot be put.
+fn assert_refused(
+    rt: &impl Abort,
+    alloc: Global,
+    case: &str,
+    words: &[&str],
+    film: &[u8],
+    (status, text): (Status, &str),
+) -> Result<(), Fail> {
+    let line = format!(in alloc; "{text}\n")?;
+    let noted = run_words(alloc, words, film, NOTHING_FAILS)?;
+    assert_ends(rt, case, &noted, status, b"", line.as_bytes());
+    let failing = Failing {
+        notes: &[1],
+        ..NOTHING_FAILS
+    };
+    let unwritten = run_words(alloc, words, film, failing)?;
+    assert_ends(rt, case, &unwritten, Status::Output, b"", b"");
+    Ok(())
+}
+
+#[test]
 fn refusals(rt: HostRuntime) -> Result<(), Fail> {
-    let film = films::BASE.as_slice();
-    let rows = [
-        ("no words", [].as_slice(), film, Status::Usage, "usage"),
-        (
-            "two names",
-            ["info", "a", "b"].as_slice(),
-            film,
-            Status::Usage,
-            "usage",
-        ),
-        (
-            "another word",
-            ["inf", "f"].as_slice(),
-            film,
-            Status::Usage,
-            "usage",
-        ),
-        (
-            "no such name",
-            ["info", "g"].as_slice(),
-            film,
-            Status::Input,
-            "cannot read g",
-        ),
-        (
-            "no bytes",
-            ["info", "f"].as_slice(),
-            [].as_slice(),
-            Status::Film,
-            "film no link",
-        ),
-        (
-            "another codec",
-            ["info", "f"].as_slice(),
-            films::NO_VORBIS.as_slice(),
-            Status::Film,
-            "film link 0 no vorbis",
-        ),
-        (
-            "no second page",
-            ["info", "f"].as_slice(),
-            films::NO_SECOND_PAGE.as_slice(),
-            Status::Film,
-            "film link 0 headers missing",
-        ),
-        (
-            "one page",
-            ["info", "f"].as_slice(),
-            films::FIRST_PAGE_ALONE.as_slice(),
-            Status::Film,
-            "film link 0 headers missing",
-        ),
-        (
-            "pages exchanged",
-            ["info", "f"].as_slice(),
-            films::PAGES_EXCHANGED.as_slice(),
-            Status::Film,
-            "film link 0 headers missing",
-        ),
-        (
-            "nine channels",
-            ["info", "f"].as_slice(),
-            films::NINE_CHANNELS.as_slice(),
-            Status::Film,
-            "film link 0 channels 9",
-        ),
-        (
-            "channels and comment",
-            ["info", "f"].as_slice(),
-            films::NINE_CHANNELS_AND_COMMENT.as_slice(),
-            Status::Film,
-            "film link 0 channels 9",
-        ),
-        (
-            "a comment",
-            ["info", "f"].as_slice(),
-            films::WRONG_COMMENT.as_slice(),
-            Status::Film,
-            "film link 0 comment framing",
-        ),
-        (
-            "a version",
-            ["info", "f"].as_slice(),
-            films::WRONG_VERSION.as_slice(),
-            Status::Film,
-            "film link 0 ident version",
-        ),
-    ];
-    for (case, words, film, status, text) in rows {
-        let line = format!(in rt.alloc(); "{text}\n")?;
-        let told = run_words(rt.alloc(), words, film, &[], &[], &[])?;
-        assert_ends(&rt, case, &told, status, b"", line.as_bytes());
-        let untold = run_words(rt.alloc(), words, film, &[], &[], &[1])?;
-        assert_ends(&rt, case, &untold, Status::Output, b"", b"");
+    for (case, words, status, text) in REFUSED_WORDS {
+        assert_refused(&rt, rt.alloc(), case, words, b"", (status, text))?;
+    }
+    for (case, parts, text) in REFUSED_FILMS {
+        let film = joined(rt.alloc(), parts)?;
+        assert_refused(
+            &rt,
+            rt.alloc(),
+            case,
+            &["info", "f"],
+            &film,
+            (Status::Film, text),
+        )?;
     }
     Ok(())
 }
 
 #[test]
 fn faults_of_the_outside(rt: HostRuntime) -> Result<(), Fail> {
+    let film = joined(rt.alloc(), &films::BASE)?;
     let words = ["info", "f"];
-    let film = films::BASE.as_slice();
-    let unread = run_words(rt.alloc(), &words, film, &[1], &[], &[])?;
-    assert_ends(
-        &rt,
-        "a failed fetch",
-        &unread,
-        Status::Input,
-        b"",
-        b"cannot read f\n",
-    );
-    let later = run_words(rt.alloc(), &words, film, &[2], &[2], &[1])?;
+    let failing = Failing {
+        shelf: &[1],
+        ..NOTHING_FAILS
+    };
+    let unread = run_words(rt.alloc(), &words, &film, failing)?;
+    let line = b"cannot read f\n";
+    assert_ends(&rt, "a failed fetch", &unread, Status::Input, b"", line);
+    let failing = Failing {
+        shelf: &[2],
+        out: &[2],
+        notes: &[1],
+    };
+    let later = run_words(rt.alloc(), &words, &film, failing)?;
     assert_eq!(rt; later.status, Status::Ok);
-    let unwritten = run_words(rt.alloc(), &words, film, &[], &[1], &[])?;
+    let failing = Failing {
+        out: &[1],
+        ..NOTHING_FAILS
+    };
+    let unwritten = run_words(rt.alloc(), &words, &film, failing)?;
     assert_ends(&rt, "a failed put", &unwritten, Status::Output, b"", b"");
+    Ok(())
+}
+
+/// A shelf that tells nothing, and answers each fetch with one fault.
+#[derive(Drop)]
+struct FaultyShelf {
+    fault: FetchFault,
+    faults: u64,
+}
+
+impl Shelf for FaultyShelf {
+    ghost use Rattle.std.specs.Prelude.{None};
+
+    ghost told = { λ _ _. None };
+
+    ghost faults = { λ s _. s.faults };
+
+    fn fetch(&mut self, _: Global, _: &str, _: u64) -> Result<Vec<u8>, FetchFault> {
+        self.faults = self.faults.saturating_add(1);
+        Err(self.fault)
+    }
+}
+
+/// A sink that tells nothing, and finds memory for the line `memory` alone. It keeps how many puts
+/// it answered, and whether the last one was done.
+#[derive(Drop)]
+struct NarrowSink {
+    puts: u32,
+    noted: bool,
+}
+
+impl Sink for NarrowSink {
+    ghost use Rattle.std.specs.Prelude.{None};
+
+    ghost written = { λ _. None };
+
+    ghost faults = { λ _. 0 };
+
+    fn put(&mut self, bytes: &[u8]) -> Result<(), PutFault> {
+        self.puts = self.puts.saturating_add(1);
+        self.noted = bytes == b"memory\n".as_slice();
+        if self.noted {
+            Ok(())
+        } else {
+            Err(PutFault::Memory)
+        }
+    }
+}
+
+#[test]
+fn a_film_that_is_too_long_and_want_of_memory(rt: HostRuntime) -> Result<(), Fail> {
+    let alloc = rt.alloc();
+    let words = words_of(alloc, &["info", "f"])?;
+    let rows = [
+        (
+            FetchFault::TooLong,
+            Status::TooLong,
+            "too long f 268435456\n",
+        ),
+        (FetchFault::Failed, Status::Input, "cannot read f\n"),
+        (FetchFault::Memory, Status::Memory, "memory\n"),
+    ];
+    for (fault, want, line) in rows {
+        let mut shelf = FaultyShelf { fault, faults: 0 };
+        let mut out = MemSink::new(alloc, Vec::new(alloc));
+        let mut notes = MemSink::new(alloc, Vec::new(alloc));
+        let status = player(alloc, &words, &mut shelf, &mut out, &mut notes, &OpenGate);
+        assert_ends(
+            &rt,
+            line,
+            &Run { status, out, notes },
+            want,
+            b"",
+            line.as_bytes(),
+        );
+    }
+    Ok(())
+}
+
+#[test]
+fn a_refusal_whose_line_finds_no_memory(rt: HostRuntime) -> Result<(), Fail> {
+    let alloc = rt.alloc();
+    for case in [["info", "g"], ["inf", "f"]] {
+        let words = words_of(alloc, &case)?;
+        let mut shelf = MemShelf::new(alloc, Vec::new(alloc), Vec::new(alloc));
+        let mut out = CleanSink::new(alloc);
+        let mut notes = NarrowSink {
+            puts: 0,
+            noted: false,
+        };
+        let status = player_alone(alloc, &words, &mut shelf, &mut out, &mut notes);
+        assert_eq!(rt; status, Some(Status::Memory), "{case:?}");
+        assert_eq!(rt; notes.puts, 2, "{case:?}");
+        assert!(rt; notes.noted, "{case:?}");
+        assert_eq!(rt; out.written(), b"".as_slice(), "{case:?}");
+    }
     Ok(())
 }
 
 #[test]
 fn nothing_fails_over_a_clean_shelf(rt: HostRuntime) -> Result<(), Fail> {
     let alloc = rt.alloc();
-    let mut words = Vec::new(alloc);
-    words.push(String::from_str(alloc, "info")?)?;
-    words.push(String::from_str(alloc, "f")?)?;
-    let mut shelf = CleanShelf::new(files_of(alloc, &films::BASE)?);
+    let words = words_of(alloc, &["info", "f"])?;
+    let film = joined(alloc, &films::BASE)?;
+    let mut shelf = CleanShelf::new(files_of(alloc, &film)?);
     let mut out = CleanSink::new(alloc);
     let mut notes = CleanSink::new(alloc);
     let status = player_alone(alloc, &words, &mut shelf, &mut out, &mut notes);

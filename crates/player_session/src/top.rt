@@ -1,16 +1,17 @@
-ghost use Rattle.std.specs.Prelude.{◌≡◌, ℕ, List, map, string_bytes, None, Some, IsSomeAnd};
+ghost use Rattle.std.specs.Prelude.{map, string_bytes, MatchOption};
 ghost use Rattle.model_player.specs.Commands.{command_of};
-ghost use Rattle.model_player.specs.Outcome.{Outcome, Completes, OutputDue, ShelfRun, SinkRun};
+ghost use Rattle.model_player.specs.Outcome.{Runs, Waits, shelf_run, sink_run};
 
 use crate::command::info_film;
 use crate::info::info;
-use crate::tell::tell;
+use crate::notes::write_note;
 use model_player::Status;
 use std::alloc::Global;
 use vf_outside::{Gate, Shelf, Sink};
 
-/// Runs a command that takes no part in threads, which is every command so far. It always returns, and its clauses are
-/// those of `player`.
+/// Runs a command that takes no part in threads. It always returns, and where it answers a status,
+/// what that promises is what `player` promises. It would answer None, and use none of its other
+/// arguments, for a command that takes part in threads, of which there is none yet.
 pub fn player_alone<F: Shelf, K: Sink, N: Sink>(
     alloc: Global,
     words: &[String],
@@ -18,27 +19,25 @@ pub fn player_alone<F: Shelf, K: Sink, N: Sink>(
     out: &mut K,
     notes: &mut N,
 ) -> Option<Status>
-    ensures outcome { IsSomeAnd result (Outcome (command_of (map string_bytes words.now))
-        (record { told = F.told shelf.old; before = F.faults shelf.old; now = F.faults shelf.new })
-        (record { old = K.written out.old; new = K.written out.new; before = K.faults out.old; now = K.faults out.new })
-        (record { old = N.written notes.old; new = N.written notes.new; before = N.faults notes.old; now = N.faults notes.new })) }
-    ensures completes { IsSomeAnd result (Completes (command_of (map string_bytes words.now))
-        (record { told = F.told shelf.old; before = F.faults shelf.old; now = F.faults shelf.new })
-        (record { old = K.written out.old; new = K.written out.new; before = K.faults out.old; now = K.faults out.new })
-        (record { old = N.written notes.old; new = N.written notes.new; before = N.faults notes.old; now = N.faults notes.new })) }
+    ensures { MatchOption result Waits (Runs (command_of (map string_bytes words.now))
+        (shelf_run F.told F.faults shelf.old shelf.new)
+        (sink_run K.written K.faults out.old out.new)
+        (sink_run N.written N.faults notes.old notes.new)) }
 {
     let status = match info_film(words) {
         Some(name) => info(alloc, name, shelf, out, notes),
-        None => tell(notes, b"usage\n", Status::Usage),
+        None => write_note(notes, b"usage\n", Status::Usage),
     };
     Some(status)
 }
 
-/// Does all that the program does: runs the command of the words after the program's name over the files of a shelf,
-/// writes its output to `out`, and the line of a refusal to `notes`. The gate is not called yet.
+/// Does all that the program does: runs the command of the words after the program's name over the
+/// files of a shelf, writes its output to `out`, and the line of a refusal to `notes`. The gate
+/// waits for commands that take part in threads.
 ///
-/// Each status has its cause, and the sinks hold what goes with it. Where the film's bytes are told and no count of
-/// faults rose, the command's duty was done, or memory ran out.
+/// What it promises stands in `Runs`: each status has its cause, and the sinks hold what goes with
+/// it; where the film's bytes are told and no count of faults rose, the command's duty was done, or
+/// memory ran out; and only words that are no command are answered as such.
 pub fn player<F: Shelf, K: Sink, N: Sink, G: Gate>(
     alloc: Global,
     words: &[String],
@@ -47,20 +46,11 @@ pub fn player<F: Shelf, K: Sink, N: Sink, G: Gate>(
     notes: &mut N,
     _gate: &G,
 ) -> Status
-    // What each status says.
-    ensures outcome { Outcome (command_of (map string_bytes words.now))
-        (record { told = F.told shelf.old; before = F.faults shelf.old; now = F.faults shelf.new })
-        (record { old = K.written out.old; new = K.written out.new; before = K.faults out.old; now = K.faults out.new })
-        (record { old = N.written notes.old; new = N.written notes.new; before = N.faults notes.old; now = N.faults notes.new })
+    ensures { Runs (command_of (map string_bytes words.now))
+        (shelf_run F.told F.faults shelf.old shelf.new)
+        (sink_run K.written K.faults out.old out.new)
+        (sink_run N.written N.faults notes.old notes.new)
         result }
-    // What must come where nothing fails.
-    ensures completes { Completes (command_of (map string_bytes words.now))
-        (record { told = F.told shelf.old; before = F.faults shelf.old; now = F.faults shelf.new })
-        (record { old = K.written out.old; new = K.written out.new; before = K.faults out.old; now = K.faults out.new })
-        (record { old = N.written notes.old; new = N.written notes.new; before = N.faults notes.old; now = N.faults notes.new })
-        result }
-    // Only words that are no command are answered as such.
-    ensures usage { result ≡ Status.Usage → command_of (map string_bytes words.now) ≡ None }
 {
     match player_alone(alloc, words, shelf, out, notes) {
         Some(status) => status,

@@ -31,7 +31,8 @@ is_next_failing failing calls = list_any (λ number. number == one_more calls) f
 
 -- ---- a shelf
 
--- its files, the numbers of the calls that fail, how many calls there were, and for each fault the place of its name
+-- its files, the numbers of the calls that fail, how many calls there were, and for each fault the
+-- place of its name
 pub record ShelfState : Type 0 where
   pub files : Files
   pub failing : List ℕ
@@ -45,13 +46,16 @@ fault_count shelf name = count_by (λ place. place == place_of shelf.files name)
 -- the next call may answer Ok with these bytes
 abbrev pub Gives : ShelfState → List ℕ → ℕ → List ℕ → Type 0
 Gives shelf name limit bytes =
-    (is_next_failing shelf.failing shelf.calls ≡ false) × (held shelf.files name ≡ Some bytes) × (length bytes ≤ limit)
+    (is_next_failing shelf.failing shelf.calls ≡ false) × (held shelf.files name ≡ Some bytes)
+    × (length bytes ≤ limit)
 
 -- the next call may answer this fault; want of memory is free
 abbrev pub Refuses : ShelfState → List ℕ → ℕ → FetchFault → Type 0
-Refuses shelf name limit Failed = (is_next_failing shelf.failing shelf.calls ≡ true) ⊎ (held shelf.files name ≡ None)
+Refuses shelf name limit Failed =
+    (is_next_failing shelf.failing shelf.calls ≡ true) ⊎ (held shelf.files name ≡ None)
 Refuses shelf name limit TooLong =
-    (is_next_failing shelf.failing shelf.calls ≡ false) × IsSomeAnd (held shelf.files name) (λ bytes. limit < length bytes)
+    (is_next_failing shelf.failing shelf.calls ≡ false)
+    × IsSomeAnd (held shelf.files name) (λ bytes. limit < length bytes)
 Refuses shelf name limit Memory = ⊤
 
 -- the faults after a call with this answer
@@ -68,7 +72,8 @@ after_fetch shelf name result =
 
 -- ---- a sink
 
--- what was written, the numbers of the calls that fail, how many calls there were, and how many of them failed
+-- what was written, the numbers of the calls that fail, how many calls there were, and how many of
+-- them failed
 pub record SinkState : Type 0 where
   pub written : List ℕ
   pub failing : List ℕ
@@ -77,6 +82,8 @@ pub record SinkState : Type 0 where
 
 -- the sink after a put of these bytes with this answer
 abbrev pub after_put : SinkState → List ℕ → Result Unit PutFault → SinkState
-after_put sink bytes (Ok done) = record sink { written = sink.written ++ bytes; calls = one_more sink.calls }
-after_put sink bytes (Err put.Failed) = record sink { calls = one_more sink.calls; faults = one_more sink.faults }
+after_put sink bytes (Ok done) =
+    record sink { written = sink.written ++ bytes; calls = one_more sink.calls }
+after_put sink bytes (Err put.Failed) =
+    record sink { calls = one_more sink.calls; faults = one_more sink.faults }
 after_put sink bytes (Err put.Memory) = record sink { calls = one_more sink.calls }

@@ -32,6 +32,16 @@ impl CleanShelf {
     }
 }
 
+/// The bytes of the first file of this name, or none.
+fn bytes_of<'a>(files: &'a [(String, Vec<u8>)], name: &str) -> &'a [u8]
+    ensures { result.now ≡ unwrap_or (held (entries files.now) name.now) [] }
+{
+    match files.get(find_place(files, name)) {
+        Some(file) => &file.1,
+        None => &[],
+    }
+}
+
 impl Shelf for CleanShelf {
     ghost told = { λ s name. Some (Some (unwrap_or (held s name) [])) };
 
@@ -40,21 +50,12 @@ impl Shelf for CleanShelf {
     fn fetch(&mut self, alloc: Global, name: &str, limit: u64) -> Result<Vec<u8>, FetchFault>
         ensures bound { IfOk result (λ bytes. vec_len bytes ≤ limit) }
         ensures bytes { IfOk result (λ bytes. bytes.items ≡ unwrap_or (held self.old name.now) []) }
-        ensures too_long { result ≡ Err FetchFault.TooLong → limit < length (unwrap_or (held self.old name.now) []) }
+        ensures too_long { result ≡ Err FetchFault.TooLong
+            → limit < length (unwrap_or (held self.old name.now) []) }
         ensures not_failed { result ≢ Err FetchFault.Failed }
         ensures unchanged { self.new ≡ self.old }
     {
         copy_within(alloc, bytes_of(&self.files, name), limit)
-    }
-}
-
-// The bytes of the first file of this name, or none.
-fn bytes_of<'a>(files: &'a [(String, Vec<u8>)], name: &str) -> &'a [u8]
-    ensures { result.now ≡ unwrap_or (held (entries files.now) name.now) [] }
-{
-    match files.get(find_place(files, name)) {
-        Some(file) => &file.1,
-        None => &[],
     }
 }
 

@@ -12,8 +12,8 @@ use std::marker::Model;
 use std::rt::Files;
 use std::{fs, io};
 
-/// The real files, by their paths. It tells nothing of their bytes, and has one count of faults, which
-/// is that of every name and rises at each `Err`.
+/// The real files, by their paths. It tells nothing of their bytes, and has one count of faults,
+/// which is that of every name and rises at each `Err`.
 #[derive(Drop)]
 pub struct FileShelf<R: Files + Drop> {
     rt: R,
@@ -39,7 +39,8 @@ impl<R: Files + Drop> FileShelf<R> {
 
 impl From<io::Error> for FetchFault {
     ghost from_gives = { λ error fault.
-        (error_kind error ≡ OutOfMemory → fault ≡ Memory) × (error_kind error ≢ OutOfMemory → fault ≡ Failed) };
+        (error_kind error ≡ OutOfMemory → fault ≡ Memory)
+        × (error_kind error ≢ OutOfMemory → fault ≡ Failed) };
 
     fn from(error: io::Error) -> Self {
         if error.kind() == ErrorKind::OutOfMemory {
@@ -50,17 +51,46 @@ impl From<io::Error> for FetchFault {
     }
 }
 
+/// The bytes up to the reader's end, where there are at most `limit` of them. No more than one byte
+/// above the limit is read.
+fn read_whole<F: Read + Drop>(alloc: Global, file: F, limit: u64) -> Result<Vec<u8>, FetchFault>
+    ensures bound { IfOk result (λ bytes. vec_len bytes ≤ limit) }
+    ensures bytes { IfOk result (λ bytes. IfSome (F.remaining file) (λ all. bytes.items ≡ all)) }
+    ensures too_long { result ≡ Err FetchFault.TooLong
+        → IfSome (F.remaining file) (λ all. limit < length all) }
+{
+    let mut bytes = Vec::new(alloc);
+    file.take(limit.saturating_add(1)).read_to_end(&mut bytes)?;
+    if bytes.len() as u64 > limit {
+        return Err(FetchFault::TooLong);
+    }
+    Ok(bytes)
+}
+
+/// The bytes of the file at this path, where there are at most `limit` of them.
+fn read_file<R: Files>(rt: &R, alloc: Global, name: &str, limit: u64) -> Result<Vec<u8>, FetchFault>
+    ensures bound { IfOk result (λ bytes. vec_len bytes ≤ limit) }
+    ensures bytes { IfOk result (λ bytes. SomeFile R.File.remaining (λ all. bytes.items ≡ all)) }
+    ensures too_long { result ≡ Err FetchFault.TooLong
+        → SomeFile R.File.remaining (λ all. limit < length all) }
+{
+    let file = fs::open(rt, name)?;
+    read_whole(alloc, file, limit)
+}
+
 impl<R: Files + Drop> Shelf for FileShelf<R> {
     ghost told = { λ _ _. None };
 
     ghost faults = { λ s _. s };
 
-    /// Beside what every shelf says: what is given is all that some opened file has, and the count is
-    /// exact.
+    /// Beside what every shelf says: what is given is all that some opened file has, and the count
+    /// is exact.
     fn fetch(&mut self, alloc: Global, name: &str, limit: u64) -> Result<Vec<u8>, FetchFault>
         ensures bound { IfOk result (λ bytes. vec_len bytes ≤ limit) }
-        ensures bytes { IfOk result (λ bytes. SomeFile R.File.remaining (λ all. bytes.items ≡ all)) }
-        ensures too_long { result ≡ Err FetchFault.TooLong → SomeFile R.File.remaining (λ all. limit < length all) }
+        ensures bytes { IfOk result (λ bytes.
+            SomeFile R.File.remaining (λ all. bytes.items ≡ all)) }
+        ensures too_long { result ≡ Err FetchFault.TooLong
+            → SomeFile R.File.remaining (λ all. limit < length all) }
         ensures failed { result ≡ Err FetchFault.Failed → Rose self.old self.new }
         ensures later { self.old ≤ self.new }
 
@@ -75,37 +105,13 @@ impl<R: Files + Drop> Shelf for FileShelf<R> {
     }
 }
 
-fn read_file<R: Files>(rt: &R, alloc: Global, name: &str, limit: u64) -> Result<Vec<u8>, FetchFault>
-    ensures bound { IfOk result (λ bytes. vec_len bytes ≤ limit) }
-    ensures bytes { IfOk result (λ bytes. SomeFile R.File.remaining (λ all. bytes.items ≡ all)) }
-    ensures too_long { result ≡ Err FetchFault.TooLong → SomeFile R.File.remaining (λ all. limit < length all) }
-{
-    let file = fs::open(rt, name)?;
-    read_whole(alloc, file, limit)
-}
-
-// The bytes up to the reader's end, where there are at most `limit` of them. No more than one byte
-// above the limit is read.
-fn read_whole<F: Read + Drop>(alloc: Global, file: F, limit: u64) -> Result<Vec<u8>, FetchFault>
-    ensures bound { IfOk result (λ bytes. vec_len bytes ≤ limit) }
-    ensures bytes { IfOk result (λ bytes. IfSome (F.remaining file) (λ all. bytes.items ≡ all)) }
-    ensures too_long { result ≡ Err FetchFault.TooLong → IfSome (F.remaining file) (λ all. limit < length all) }
-{
-    let mut bytes = Vec::new(alloc);
-    file.take(limit.saturating_add(1)).read_to_end(&mut bytes)?;
-    if bytes.len() as u64 > limit {
-        return Err(FetchFault::TooLong);
-    }
-    Ok(bytes)
-}
-
 #[cfg(test)]
 mod tests {
     use super::*;
     use std::test::Fail;
     use std::{env, process};
 
-    // Gives so many single bytes, and fails then.
+    /// Gives so many single bytes, and fails then.
     #[derive(Drop)]
     struct Breaking {
         left: u8,

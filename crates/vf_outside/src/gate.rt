@@ -1,4 +1,4 @@
-/// Where a hand of a running player stands, as a gate is told before the hand's next turn.
+/// Where a hand of a running player stands before its next turn, as a gate gets it.
 #[derive(Clone, Copy, Debug, PartialEq, Eq)]
 pub struct Point {
     /// The hand's number, from 0.
@@ -11,7 +11,7 @@ pub struct Point {
     pub published: u64,
 }
 
-/// Is told before each turn of each hand. It promises nothing.
+/// Is called before each turn of each hand. It promises nothing.
 pub trait Gate: Sync {
     /// Called by the hand that is about to turn.
     fn reach(&self, point: Point);

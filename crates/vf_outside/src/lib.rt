@@ -1,5 +1,5 @@
-//! What a player reads and writes: files by their names, streams that are written to, and gates that
-//! are told of each turn.
+//! What a player reads and writes: files by their names, streams that are written to, and gates
+//! that are called before each turn.
 #![tactic(auto)]
 
 mod clean;

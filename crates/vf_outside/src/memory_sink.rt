@@ -32,8 +32,8 @@ impl Model for MemSink {
 }
 
 impl MemSink {
-    /// Begins with no bytes. `failing` lists the numbers of the calls that are to fail, counted from
-    /// 1; a failing call appends nothing.
+    /// Begins with no bytes. `failing` lists the numbers of the calls that are to fail, counted
+    /// from 1; a failing call appends nothing.
     pub fn new(alloc: Global, failing: Vec<u64>) -> Self
         ensures { result ≡ record { written = []; failing = failing.items; calls = 0; faults = 0 } }
     {
@@ -61,14 +61,19 @@ impl Sink for MemSink {
     /// Beside what every sink says: which calls fail, and the sink after each answer.
     fn put(&mut self, bytes: &[u8]) -> Result<(), PutFault>
         requires { 0 < length bytes.now }
-        ensures ok { OnOk result (Appends (Some self.old.written) (Some self.new.written) bytes.now) }
+        ensures ok { OnOk result (Appends (Some self.old.written) (Some self.new.written)
+            bytes.now) }
         ensures failed { result ≡ Err PutFault.Failed → Rose self.old.faults self.new.faults }
-        ensures part { result ≡ Err PutFault.Failed → AppendsPart (Some self.old.written) (Some self.new.written) bytes.now }
-        ensures memory { result ≡ Err PutFault.Memory → Keeps (Some self.old.written) (Some self.new.written) }
+        ensures part { result ≡ Err PutFault.Failed
+            → AppendsPart (Some self.old.written) (Some self.new.written) bytes.now }
+        ensures memory { result ≡ Err PutFault.Memory
+            → Keeps (Some self.old.written) (Some self.new.written) }
         ensures later { self.old.faults ≤ self.new.faults }
 
-        ensures listed { is_next_failing self.old.failing self.old.calls ≡ true → result ≡ Err PutFault.Failed }
-        ensures not_listed { is_next_failing self.old.failing self.old.calls ≡ false → result ≢ Err PutFault.Failed }
+        ensures listed { is_next_failing self.old.failing self.old.calls ≡ true
+            → result ≡ Err PutFault.Failed }
+        ensures not_listed { is_next_failing self.old.failing self.old.calls ≡ false
+            → result ≢ Err PutFault.Failed }
         ensures after { self.new ≡ after_put self.old bytes.now result }
     {
         let is_failing = is_next_failing(&self.failing, self.calls);

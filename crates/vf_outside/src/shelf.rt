@@ -49,18 +49,20 @@ pub trait Shelf {
     /// changes the map.
     ///
     /// # Errors
-    /// `Failed` only where the name's count of faults rose in this call. `TooLong` where the call did
-    /// not fail and the file has more bytes than `limit`. `Memory` where memory ran out.
+    /// `Failed` only where the name's count of faults rose in this call. `TooLong` where the call
+    /// did not fail and the file has more bytes than `limit`. `Memory` where memory ran out.
     fn fetch(&mut self, alloc: Global, name: &str, limit: u64) -> Result<Vec<u8>, FetchFault>
         ensures bound { IfOk result (λ bytes. vec_len bytes ≤ limit) }
         ensures bytes { IfOk result (λ bytes. MayGive (told self.old name.now) bytes.items) }
-        ensures too_long { result ≡ Err FetchFault.TooLong → MayBeTooLong (told self.old name.now) limit }
-        ensures failed { result ≡ Err FetchFault.Failed → Rose (faults self.old name.now) (faults self.new name.now) }
+        ensures too_long { result ≡ Err FetchFault.TooLong
+            → MayBeTooLong (told self.old name.now) limit }
+        ensures failed { result ≡ Err FetchFault.Failed
+            → Rose (faults self.old name.now) (faults self.new name.now) }
         ensures later { (other : List ℕ) → faults self.old other ≤ faults self.new other }
         ensures unchanged { (other : List ℕ) → told self.new other ≡ told self.old other };
 }
 
-// A copy of the bytes, where there are at most `limit` of them.
+/// A copy of the bytes, where there are at most `limit` of them.
 pub(crate) fn copy_within(alloc: Global, bytes: &[u8], limit: u64) -> Result<Vec<u8>, FetchFault>
     ensures copied { IfOk result (λ copy. copy.items ≡ bytes.now) }
     ensures bound { IfOk result (λ copy. length bytes.now ≤ limit) }

@@ -38,13 +38,15 @@ pub trait Sink {
     /// Writes all of the bytes.
     ///
     /// # Errors
-    /// `Failed` only where the count of faults rose in this call; a front of the bytes may then have
-    /// been written. `Memory` where memory ran out; nothing was written then.
+    /// `Failed` only where the count of faults rose in this call; a front of the bytes may then
+    /// have been written. `Memory` where memory ran out; nothing was written then.
     fn put(&mut self, bytes: &[u8]) -> Result<(), PutFault>
         requires { 0 < length bytes.now }
         ensures ok { OnOk result (Appends (written self.old) (written self.new) bytes.now) }
         ensures failed { result ≡ Err PutFault.Failed → Rose (faults self.old) (faults self.new) }
-        ensures part { result ≡ Err PutFault.Failed → AppendsPart (written self.old) (written self.new) bytes.now }
-        ensures memory { result ≡ Err PutFault.Memory → Keeps (written self.old) (written self.new) }
+        ensures part { result ≡ Err PutFault.Failed
+            → AppendsPart (written self.old) (written self.new) bytes.now }
+        ensures memory { result ≡ Err PutFault.Memory
+            → Keeps (written self.old) (written self.new) }
         ensures later { faults self.old ≤ faults self.new };
 }

@@ -7,8 +7,8 @@ use crate::sink::{PutFault, Sink};
 use std::io::{ErrorKind, Stderr, Stdout, Write};
 use std::marker::Model;
 
-/// A sink over a writer, as standard output or standard error. It tells what the writer tells, which
-/// is nothing for those two. Its count of faults rises at each `Err`.
+/// A sink over a writer, as standard output or standard error. It tells what the writer tells,
+/// which is nothing for those two. Its count of faults rises at each `Err`.
 #[derive(Drop)]
 pub struct StdSink<W: Write + Drop> {
     writer: W,
@@ -47,34 +47,11 @@ impl StdSink<Stderr> {
     }
 }
 
-impl<W: Write + Drop> Sink for StdSink<W> {
-    ghost written = { λ s. s.written };
-
-    ghost faults = { λ s. s.faults };
-
-    fn put(&mut self, bytes: &[u8]) -> Result<(), PutFault>
-        requires { 0 < length bytes.now }
-        ensures ok { OnOk result (Appends self.old.written self.new.written bytes.now) }
-        ensures failed { result ≡ Err PutFault.Failed → Rose self.old.faults self.new.faults }
-        ensures part { result ≡ Err PutFault.Failed → AppendsPart self.old.written self.new.written bytes.now }
-        ensures never_memory { result ≢ Err PutFault.Memory }
-        ensures later { self.old.faults ≤ self.new.faults }
-
-        ensures counted { OnErr result (self.new.faults ≡ one_more self.old.faults) }
-        ensures kept { OnOk result (self.new.faults ≡ self.old.faults) }
-    {
-        let result = write_whole(&mut self.writer, bytes);
-        if result.is_err() {
-            self.faults = self.faults.saturating_add(1);
-        }
-        result
-    }
-}
-
-// Writes all of the bytes. An interrupted write is tried again; one that takes nothing is a fault.
+/// Writes all of the bytes. An interrupted write is tried again; one that takes nothing is a fault.
 fn write_whole<W: Write>(writer: &mut W, bytes: &[u8]) -> Result<(), PutFault>
     ensures ok { OnOk result (Appends (W.contents writer.old) (W.contents writer.new) bytes.now) }
-    ensures part { OnErr result (AppendsPart (W.contents writer.old) (W.contents writer.new) bytes.now) }
+    ensures part { OnErr result
+        (AppendsPart (W.contents writer.old) (W.contents writer.new) bytes.now) }
     ensures never_memory { result ≢ Err PutFault.Memory }
 {
     let mut at = 0;
@@ -92,13 +69,39 @@ fn write_whole<W: Write>(writer: &mut W, bytes: &[u8]) -> Result<(), PutFault>
     Err(PutFault::Failed)
 }
 
+impl<W: Write + Drop> Sink for StdSink<W> {
+    ghost written = { λ s. s.written };
+
+    ghost faults = { λ s. s.faults };
+
+    fn put(&mut self, bytes: &[u8]) -> Result<(), PutFault>
+        requires { 0 < length bytes.now }
+        ensures ok { OnOk result (Appends self.old.written self.new.written bytes.now) }
+        ensures failed { result ≡ Err PutFault.Failed → Rose self.old.faults self.new.faults }
+        ensures part { result ≡ Err PutFault.Failed
+            → AppendsPart self.old.written self.new.written bytes.now }
+        ensures never_memory { result ≢ Err PutFault.Memory }
+        ensures later { self.old.faults ≤ self.new.faults }
+
+        ensures counted { OnErr result (self.new.faults ≡ one_more self.old.faults) }
+        ensures kept { OnOk result (self.new.faults ≡ self.old.faults) }
+    {
+        let result = write_whole(&mut self.writer, bytes);
+        if result.is_err() {
+            self.faults = self.faults.saturating_add(1);
+        }
+        result
+    }
+}
+
 #[cfg(test)]
 mod tests {
     use super::*;
     use std::io;
     use std::test::Fail;
 
-    // Is interrupted once, takes at most two bytes at a time, and nothing when its room is used up.
+    /// Is interrupted once, takes at most two bytes at a time, and nothing when its room is used
+    /// up.
     #[derive(Drop)]
     struct Narrow {
         interrupted: bool,

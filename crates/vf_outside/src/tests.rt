@@ -3,7 +3,7 @@ use std::alloc::{AllocError, Global};
 use std::process::Abort;
 use std::test::Fail;
 
-// The name `a` twice and the name `b` without bytes.
+/// The name `a` twice and the name `b` without bytes.
 fn named_bytes(alloc: Global) -> Result<Vec<(String, Vec<u8>)>, AllocError> {
     let mut files = Vec::new(alloc);
     for (name, bytes) in [("a", "first"), ("b", ""), ("a", "second")] {
@@ -13,7 +13,7 @@ fn named_bytes(alloc: Global) -> Result<Vec<(String, Vec<u8>)>, AllocError> {
     Ok(files)
 }
 
-// One fetch: its name, its limit, and the text that it must give or its fault.
+/// One fetch: its name, its limit, and the text that it must give or its fault.
 type Row = (&'static str, u64, Result<&'static str, FetchFault>);
 
 fn expect_rows<S: Shelf>(rt: &impl Abort, alloc: Global, shelf: &mut S, rows: &[Row]) {
@@ -78,6 +78,28 @@ fn sinks_in_memory_keep_what_was_put(rt: HostRuntime) -> Result<(), Fail> {
     clean.put(b"ab")?;
     clean.put(b"c")?;
     assert_eq!(rt; clean.written(), b"abc".as_slice());
+    Ok(())
+}
+
+#[test]
+fn the_texts_of_faults(rt: HostRuntime) -> Result<(), Fail> {
+    let fetches = [
+        (FetchFault::Failed, "the file cannot be read"),
+        (FetchFault::TooLong, "the file is too long"),
+        (FetchFault::Memory, "out of memory"),
+    ];
+    for (fault, text) in fetches {
+        let shown = format!(in rt.alloc(); "{fault}")?;
+        assert_eq!(rt; shown.as_str(), text, "{fault:?}");
+    }
+    let puts = [
+        (PutFault::Failed, "the output cannot be written"),
+        (PutFault::Memory, "out of memory"),
+    ];
+    for (fault, text) in puts {
+        let shown = format!(in rt.alloc(); "{fault}")?;
+        assert_eq!(rt; shown.as_str(), text, "{fault:?}");
+    }
     Ok(())
 }
 

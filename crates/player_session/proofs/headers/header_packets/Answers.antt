@@ -1,8 +1,8 @@
-use Rattle.std.proofs.Common.{◌≡◌, ◌∙◌, ℕ, true, List, length, drop, Some, None, is_some, option_map, sym, ap}
+use Rattle.std.proofs.Common.{◌∙◌, ℕ, length, is_some, sym, ap}
 use Rattle.std.proofs.lemmas.List.{drop-map}
 use Rattle.std.proofs.lemmas.List.Elements.{All-drop}
-use Rattle.model_ogg.specs.Entries.{item_of, items_of, EntryLiesBefore}
-use Rattle.model_player.specs.Film.{first_packet}
+use Rattle.ogg_packets.specs.Entries.{item_of, items_of, EntryLiesBefore}
+use Rattle.model_player.specs.LinkTests.{first_packet}
 use Rattle.player_session.proofs.FirstThree.{no_ident, no_comment, no_setup, all_there}
 use Rattle.player_session.proofs.headers.header_packets.Goals as goal
 
