@@ -1,9 +1,9 @@
 #!/usr/bin/env bash
 # Measures what reading bits costs: builds a scratch program over bit_reader in a temporary folder,
-# below a copy of the crates that it stands on, and prints the times. It writes nothing in the repository.
+# beside copies of the crates that it stands on, and prints the times. It writes nothing in the repository.
 set -euo pipefail
-source "$(dirname "$0")/scratch.sh"
-scratch_program bench_bits "bit_reader" model_bits bit_reader
+source "$(dirname "$(readlink -f "${BASH_SOURCE[0]}")")/scratch.sh"
+scratch_program bench_bits bit_reader
 cat >src/main.rt <<'RATTLE'
 //! Times reading a packet of a thousand bytes many times, whole bytes and fields of some widths.
 #![tactic(auto)]

@@ -1,10 +1,10 @@
 #!/usr/bin/env bash
 # Measures what a floor's curve costs: builds a scratch program over floor_one in a temporary folder,
-# below a copy of the crates that it stands on, and prints the times of drawing a curve of 32 points over
+# beside copies of the crates that it stands on, and prints the times of drawing a curve of 32 points over
 # 1,024 lines and of decoding it, and of a plain loop that writes 1,024 bytes. It writes nothing in the repository.
 set -euo pipefail
-source "$(dirname "$0")/scratch.sh"
-scratch_program bench_floor "floor_one codebooks bit_reader" model_bits model_fixed model_setup bit_reader codebooks floor_one
+source "$(dirname "$(readlink -f "${BASH_SOURCE[0]}")")/scratch.sh"
+scratch_program bench_floor floor_one codebooks bit_reader
 cat >src/main.rt <<'RATTLE'
 //! Times drawing a floor's curve over 1,024 lines, and decoding its points.
 #![tactic(auto)]

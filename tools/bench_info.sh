@@ -3,40 +3,16 @@
 #
 #     tools/bench_info.sh
 #
-# Prints the median of five runs of each, which take turns, their ratio, and the most memory that a run took.
-# PLAYER is the program (default: the one that `player` at the repository's root builds).
+# Prints the median of five runs of each, which take turns, their ratio, and the most memory that a run took. It fails where
+# a run does not end with status 0.
+# PLAYER is the program (default: the one that `player` at the repository's root runs).
 # FILM is a film to take in place of the one that is made.
 # Writes only below a folder of its own in the place for temporary files, and removes it.
 set -euo pipefail
 
-root=$(cd "$(dirname "$(readlink -f "${BASH_SOURCE[0]}")")/.." && pwd)
-
-need() {
-    local program=$1 package=$2
-    command -v "$program" >/dev/null && return
-    if [ "$(id -u)" = 0 ] && command -v apt-get >/dev/null; then
-        apt-get install -y "$package" >/dev/null 2>&1 || true
-    fi
-    command -v "$program" >/dev/null || {
-        echo "$program is missing, of the package $package: nothing is timed"
-        exit 0
-    }
-}
-
-need oggenc vorbis-tools
-need ogginfo vorbis-tools
-need sox sox
-need python3 python3
-
-if [ -z "${PLAYER:-}" ]; then
-    PLAYER=$root/crates/player_cli/out/player_cli
-    # builds the program where it isn't there or is older than its sources; what it answers to no words is of no concern
-    "$root/player" >/dev/null 2>&1 || true
-fi
-[ -x "$PLAYER" ] || {
-    echo "no program at $PLAYER" >&2
-    exit 1
-}
+source "$(dirname "$(readlink -f "${BASH_SOURCE[0]}")")/common.sh"
+need oggenc ogginfo sox python3
+player=$(program)
 
 work=$(mktemp -d)
 trap 'rm -rf "$work"' EXIT
@@ -49,7 +25,7 @@ if [ -z "$film" ]; then
         | oggenc -Q -r -B 16 -C 2 -R 44100 -q 0 -s 1 -o "$film" -
 fi
 
-python3 - "$PLAYER" "$film" <<'PYTHON'
+python3 - "$player" "$film" <<'PYTHON'
 import os
 import statistics
 import sys
@@ -72,8 +48,10 @@ def run(words):
         text = output.read()
     _, status, used = os.wait4(child, 0)
     seconds = time.perf_counter() - start
+    if status != 0:
+        sys.exit(f"{words[0]} ended with status {os.waitstatus_to_exitcode(status)}: nothing is told of it")
     lines = text.decode(errors="replace").splitlines()
-    return seconds, used.ru_maxrss / 1024, os.waitstatus_to_exitcode(status), lines[0] if lines else ""
+    return seconds, used.ru_maxrss / 1024, lines[0] if lines else ""
 
 
 commands = {"info": [player, "info", film], "ogginfo": ["ogginfo", film]}
@@ -85,12 +63,12 @@ for _ in range(5):
         runs[name].append(run(words))
 
 print(f"film: {os.path.getsize(film):,} bytes")
-print(f"info says: {runs['info'][0][3]} (status {runs['info'][0][2]})")
+print(f"info says: {runs['info'][0][2]}")
 medians = {}
 for name, results in runs.items():
-    medians[name] = statistics.median(seconds for seconds, _, _, _ in results)
-    peak = max(memory for _, memory, _, _ in results)
-    each = " ".join(f"{1000 * seconds:.1f}" for seconds, _, _, _ in results)
+    medians[name] = statistics.median(seconds for seconds, _, _ in results)
+    peak = max(memory for _, memory, _ in results)
+    each = " ".join(f"{1000 * seconds:.1f}" for seconds, _, _ in results)
     print(f"{name}: median {1000 * medians[name]:.1f} ms of {each}; at most {peak:.1f} MiB")
 print(f"info / ogginfo: {medians['info'] / medians['ogginfo']:.2f}")
 PYTHON

@@ -3,16 +3,15 @@
 #
 #     tools/bench_links.sh
 #
-# Prints the best of three runs of each, in milliseconds.
-# PLAYER is the program (default: the one that `player` at the repository's root builds).
+# Prints the best of three runs of each, in milliseconds. It fails where a run does not answer as it must: the chain is told,
+# and the others are refused for having no link.
+# PLAYER is the program (default: the one that `player` at the repository's root runs).
 # Writes only below a folder of its own in the place for temporary files, and removes it.
 set -euo pipefail
 
-root=$(cd "$(dirname "$(readlink -f "${BASH_SOURCE[0]}")")/.." && pwd)
-if [ -z "${PLAYER:-}" ]; then
-    PLAYER=$root/crates/player_cli/out/player_cli
-    "$root/player" >/dev/null 2>&1 || true
-fi
+source "$(dirname "$(readlink -f "${BASH_SOURCE[0]}")")/common.sh"
+need python3
+player=$(program)
 work=$(mktemp -d)
 trap 'rm -rf "$work"' EXIT
 
@@ -29,13 +28,23 @@ with open(f"{work}/capture_bytes", "wb") as film:
     film.write(b"OggS" * 2**26)
 PY
 
-for film in links zeros capture_bytes; do
-    best=
+# best FILM STATUS: the best time of three runs, each of which must end with this status
+best() {
+    local best='' begin took status
     for _ in 1 2 3; do
         begin=$(date +%s%N)
-        "$PLAYER" info "$work/$film" >/dev/null 2>&1 || true
+        status=0
+        "$player" info "$work/$1" >"$work/output" 2>"$work/notes" || status=$?
         took=$((($(date +%s%N) - begin) / 1000000))
+        [ "$status" = "$2" ] || {
+            echo "$1: status $status in place of $2: $(head -n 1 "$work/notes")" >&2
+            exit 1
+        }
         if [ -z "$best" ] || [ "$took" -lt "$best" ]; then best=$took; fi
     done
-    echo "$film: $best ms"
-done
+    echo "$1: $best ms"
+}
+
+best links 0
+best zeros 5
+best capture_bytes 5

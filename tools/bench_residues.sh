@@ -1,11 +1,11 @@
 #!/usr/bin/env bash
 # Measures what decoding a residue costs: builds a scratch program over residues in a temporary folder,
-# below a copy of the crates that it stands on, and prints the time of decoding two interleaved vectors of
+# beside copies of the crates that it stands on, and prints the time of decoding two interleaved vectors of
 # 1,024 values from a packet of 500 bytes, and that of a plain loop that writes as many values. It writes
 # nothing in the repository.
 set -euo pipefail
-source "$(dirname "$0")/scratch.sh"
-scratch_program bench_residues "residues codebooks bit_reader" sequence model_bits model_fixed model_setup bit_reader codebooks residues
+source "$(dirname "$(readlink -f "${BASH_SOURCE[0]}")")/scratch.sh"
+scratch_program bench_residues residues codebooks bit_reader
 cat >src/main.rt <<'RATTLE'
 //! Times decoding a residue of type 2 over two vectors of 1,024 values.
 #![tactic(auto)]

@@ -3,14 +3,13 @@
 #
 #     tools/check_real.sh [--small]
 #
-# Makes the films by `sox` and `oggenc`; with --small only four short ones. PLAYER is the program (default: `player` at
-# the repository's root). Where the tools are missing and can't be installed it says so, and its status is 0.
-# Else the last line is 'N passed, N failed', and the status is 1 where something failed.
+# Makes the films by `sox` and `oggenc`; with --small only five short ones. PLAYER is the program (default: the one that
+# `player` at the repository's root runs). Where a program that it needs is missing it says so, compares nothing, and its
+# status is 0. Else the last line is 'N passed, N failed', and the status is 1 where something failed.
 # Writes only below a folder of its own in the place for temporary files, and removes it.
 set -euo pipefail
 
-root=$(cd "$(dirname "$(readlink -f "${BASH_SOURCE[0]}")")/.." && pwd)
-PLAYER=${PLAYER:-$root/player}
+source "$(dirname "$(readlink -f "${BASH_SOURCE[0]}")")/common.sh"
 
 small=
 case ${1:-} in
@@ -22,22 +21,8 @@ case ${1:-} in
         ;;
 esac
 
-# whether a program is there, after an attempt to install its package
-have() {
-    local program=$1 package=$2
-    command -v "$program" >/dev/null && return
-    if [ "$(id -u)" = 0 ] && command -v apt-get >/dev/null; then
-        apt-get install -y "$package" >/dev/null 2>&1 || true
-    fi
-    command -v "$program" >/dev/null
-}
-
-for pair in oggenc:vorbis-tools ogginfo:vorbis-tools sox:sox oggz-info:oggz-tools; do
-    have "${pair%:*}" "${pair#*:}" || {
-        echo "skipped: ${pair%:*} is missing, of the package ${pair#*:}; no real film was compared"
-        exit 0
-    }
-done
+skip_without oggenc ogginfo sox oggz-info oggz-merge
+player=$(program)
 
 work=$(mktemp -d)
 trap 'rm -rf "$work"' EXIT
@@ -63,7 +48,7 @@ make() {
 # info NAME: what the program prints of a film goes into `said`, and its status into `status`
 info() {
     status=0
-    said=$("$PLAYER" info "$work/$1.ogg" 2>"$work/notes") || status=$?
+    said=$("$player" info "$work/$1.ogg" 2>"$work/notes") || status=$?
 }
 
 # expected FILE LINK SERIAL CHANNELS RATE: the two lines that are wanted of a link, by the pages and packets that oggz-info
@@ -108,7 +93,7 @@ counts() {
 
 # another stream of another codec beside the sound, or else a second one of sound
 multiplexed() {
-    if have opusenc opus-tools; then
+    if [ -z "$(missing opusenc)" ]; then
         sox -R -n -r 48000 -c 1 -b 16 "$work/other.wav" synth 5 pinknoise vol 0.5
         opusenc --quiet "$work/other.wav" "$work/other.ogg"
     else

@@ -1,17 +1,13 @@
 #!/usr/bin/env bash
 # Compares the floors and residues of tools/reference.py with oggdec's on real films: decodes the first packets of each
 # by tools/decode.py and by oggdec, and fails where a sample differs by more than the rounding. The films are made by
-# sox and oggenc. Where a program is missing it says so, and its status is 0; else the last line is 'N passed, N failed'.
+# sox and oggenc. Where a program that it needs is missing it says so, compares nothing, and its status is 0; else the last
+# line is 'N passed, N failed'.
 # Writes only below a folder of its own in the place for temporary files, and removes it.
 set -euo pipefail
 
-tools=$(cd "$(dirname "$(readlink -f "${BASH_SOURCE[0]}")")" && pwd)
-for program in sox oggenc oggdec python3; do
-    command -v "$program" >/dev/null || {
-        echo "skipped: $program is missing"
-        exit 0
-    }
-done
+source "$(dirname "$(readlink -f "${BASH_SOURCE[0]}")")/common.sh"
+skip_without sox oggenc oggdec python3
 
 work=$(mktemp -d)
 trap 'rm -rf "$work"' EXIT
@@ -23,7 +19,7 @@ compare() {
     sox -R -n -r "$2" -c "$1" -b 16 "$work/sound.wav" synth 0.7 pinknoise synth 0.7 sine mix 300-3000 vol 0.5
     oggenc -Q -q "$3" -s 1 -o "$work/film.ogg" "$work/sound.wav"
     oggdec -Q -R -b 16 -o "$work/film.raw" "$work/film.ogg"
-    if python3 -B "$tools/decode.py" "$work/film.ogg" "$4" >"$work/frames" && python3 - "$1" "$work/frames" "$work/film.raw" <<'PYTHON'
+    if python3 -B "$root/tools/decode.py" "$work/film.ogg" "$4" >"$work/frames" && python3 - "$1" "$work/frames" "$work/film.raw" <<'PYTHON'
 import struct, sys
 channels = int(sys.argv[1])
 frames = [float(word) for line in open(sys.argv[2]) for word in line.split()]

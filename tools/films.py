@@ -1,7 +1,7 @@
 #!/usr/bin/env python3
 """The films of the tests, built page by page (RFC 3533, section 6).
 
-    tools/films.py rust        the films as constants for a test file
+    tools/films.py rust        the films of player_session's tests: its file src/tests/films.rt
     tools/films.py antt NAME.. the bytes of films as a list for an example
     tools/films.py file NAME PATH   one film as a file
 """
@@ -69,65 +69,129 @@ def base(*packets, granule=32, serial=1, rate=8000):
 
 F = base(S, S)
 WRONG_COMMENT = COMMENT[:-1] + b"\0"
+LONG = bytes(255)
 
 
-def with_heads(first, second):
-    return page(FIRST, 0, [first]) + page(0, 1, [second, SETUP]) + page(LAST, 2, [S, S], granule=32)
+def changed(page):
+    """The page with one bit of its last byte changed."""
+    return page[:-1] + bytes([page[-1] ^ 1])
 
 
-def changed(film, place):
-    film = bytearray(film)
-    film[place] ^= 1
-    return bytes(film)
+# The parts of the films: pages, and what stands between them.
+PARTS = {
+    "IDENT": page(FIRST, 0, [ident()]),
+    "SETUP": page(0, 1, [COMMENT, SETUP]),
+    "TWO_LAST": page(LAST, 2, [S, S], granule=32),
+    "WITH_EMPTY": page(LAST, 2, [S, b"", S], granule=32),
+    "TWO_SECOND": page(0, 2, [S, S], granule=32),
+    "TWO_FOURTH": page(LAST, 4, [S, S], granule=96),
+    "TWO_CHANGED": changed(page(LAST, 2, [S, S], granule=32)),
+    "THREE_LAST": page(LAST, 2, [Q, Q, Q], granule=64),
+    "SECOND_IDENT": page(FIRST, 0, [ident(rate=16000)], serial=2),
+    "SECOND_SETUP": page(0, 1, [COMMENT, SETUP], serial=2),
+    "SECOND_LAST": page(LAST, 2, [Q, Q, Q], granule=64, serial=2),
+    "OPUS": page(FIRST, 0, [b"OpusHead"]),
+    "FALSE_BEGINNING": b"xOggS",
+    "FALSE_VERSION": b"OggS\0",
+    "CUT_BEGINNING": b"Ogg",
+    "ZEROS": LONG,
+    "LONG_BEGINS": page(0, 2, [LONG], granule=NONE, open_end=True)[:-255],
+    "LONG_GOES_ON": page(CONTINUED, 3, [LONG], granule=NONE, open_end=True)[:-255],
+    "LONG_ENDS": page(CONTINUED | LAST, 4, [bytes(3)], granule=32),
+    "NOTHING_GOES_ON": page(CONTINUED, 3, [], granule=NONE),
+    "ORPHAN": page(CONTINUED, 2, [S, S, S], granule=32),
+    "ONE_LAST": page(LAST, 3, [S], granule=64),
+    "NINE_IDENT": page(FIRST, 0, [ident(channels=9)]),
+    "WRONG_SETUP": page(0, 1, [WRONG_COMMENT, SETUP]),
+    "VERSION_IDENT": page(FIRST, 0, [b"\x01vorbis\1" + ident()[8:]]),
+    "OPUS_FIFTH": page(FIRST, 0, [b"OpusHead"], serial=5),
+    "STEREO_IDENT": page(FIRST, 0, [ident(channels=2)]),
+    "OPUS_TAGS": page(0, 1, [b"OpusTags"], serial=5),
+    "WRAP_IDENT": page(FIRST, 2**32 - 2, [ident()]),
+    "WRAP_SETUP": page(0, 2**32 - 1, [COMMENT, SETUP]),
+    "WRAP_LAST": page(LAST, 0, [S, S], granule=32),
+}
 
-
+# The films of the tests: what each is, and its parts.
 FILMS = {
-    # the base film, and the changes of it that the tests read
-    "BASE": F,
-    "EMPTY_PACKET": base(S, b"", S),
-    "PAGE_MISSING": heads() + page(0, 2, [S, S], granule=32) + page(LAST, 4, [S, S], granule=96),
-    "BODY_CHANGED": changed(F, len(F) - 1),
-    "CHAIN": base(Q, Q, Q, granule=64) + base(Q, Q, Q, granule=64, serial=2, rate=16000),
-    "NO_VORBIS": page(FIRST, 0, [b"OpusHead"]),
-    "GARBAGE_BETWEEN": b"xOggS" + heads() + b"OggS\0" + page(LAST, 2, [S, S], granule=32) + b"Ogg",
-    "THIRD_PAGE_AGAIN": F + page(LAST, 2, [S, S], granule=32),
-    "SECOND_PAGE_TWICE": heads() + page(0, 1, [COMMENT, SETUP]) + page(LAST, 2, [S, S], granule=32),
-    "THREE_PAGE_PACKET": heads()
-    + page(0, 2, [bytes(255)], granule=NONE, open_end=True)
-    + page(CONTINUED, 3, [bytes(255)], granule=NONE, open_end=True)
-    + page(CONTINUED | LAST, 4, [bytes(3)], granule=32),
-    "CONTINUES_NOTHING": heads() + page(CONTINUED, 2, [S, S, S], granule=32) + page(LAST, 3, [S], granule=64),
-    "EMPTY_PAGE": heads() + page(0, 2, [bytes(255)], granule=NONE, open_end=True) + page(CONTINUED, 3, [], granule=NONE)
-    + page(CONTINUED | LAST, 4, [bytes(3)], granule=32),
-    "NO_SECOND_PAGE": page(FIRST, 0, [ident()]) + page(LAST, 2, [S, S], granule=32),
-    "FIRST_PAGE_ALONE": page(FIRST, 0, [ident()]),
-    "PAGES_EXCHANGED": page(0, 1, [COMMENT, SETUP]) + page(FIRST, 0, [ident()]) + page(LAST, 2, [S, S], granule=32),
-    "NINE_CHANNELS": with_heads(ident(channels=9), COMMENT),
-    "NINE_CHANNELS_AND_COMMENT": with_heads(ident(channels=9), WRONG_COMMENT),
-    "WRONG_COMMENT": with_heads(ident(), WRONG_COMMENT),
-    "WRONG_VERSION": with_heads(b"\x01vorbis\1" + ident()[8:], COMMENT),
-    "TWO_STREAMS": page(FIRST, 0, [b"OpusHead"], serial=5) + page(FIRST, 0, [ident(channels=2)])
-    + page(0, 1, [b"OpusTags"], serial=5) + page(0, 1, [COMMENT, SETUP]) + page(LAST, 2, [S, S], granule=32),
-    "NUMBERS_WRAP": page(FIRST, 2**32 - 2, [ident()]) + page(0, 2**32 - 1, [COMMENT, SETUP])
-    + page(LAST, 0, [S, S], granule=32),
-    # small films for examples by computation
+    "BASE": ("Three pages: the identification; the comment and the setup; two audio packets.",
+             "IDENT SETUP TWO_LAST"),
+    "EMPTY_PACKET": ("The same with an empty packet between the two.", "IDENT SETUP WITH_EMPTY"),
+    "PAGE_MISSING": ("Two audio pages, with a page missing between them.",
+                     "IDENT SETUP TWO_SECOND TWO_FOURTH"),
+    "BODY_CHANGED": ("The base film with one bit of its third page's body changed.",
+                     "IDENT SETUP TWO_CHANGED"),
+    "CHAIN": ("Two films, one after the other, of the rates 8000 and 16000.",
+              "IDENT SETUP THREE_LAST SECOND_IDENT SECOND_SETUP SECOND_LAST"),
+    "NO_VORBIS": ("One first page of another codec.", "OPUS"),
+    "GARBAGE_BETWEEN": ("The base film between and behind other bytes, some of which begin like pages.",
+                        "FALSE_BEGINNING IDENT SETUP FALSE_VERSION TWO_LAST CUT_BEGINNING"),
+    "THIRD_PAGE_AGAIN": ("The base film followed by its third page again.",
+                         "IDENT SETUP TWO_LAST TWO_LAST"),
+    "SECOND_PAGE_TWICE": ("The base film with its second page twice.", "IDENT SETUP SETUP TWO_LAST"),
+    "THREE_PAGE_PACKET": ("A packet over three pages, in full segments but the last.",
+                          "IDENT SETUP LONG_BEGINS ZEROS LONG_GOES_ON ZEROS LONG_ENDS"),
+    "CONTINUES_NOTHING": ("A page that goes on with a packet where none is open.",
+                          "IDENT SETUP ORPHAN ONE_LAST"),
+    "EMPTY_PAGE": ("A packet over two pages, with a page without segments between them.",
+                   "IDENT SETUP LONG_BEGINS ZEROS NOTHING_GOES_ON LONG_ENDS"),
+    "NO_SECOND_PAGE": ("The base film without its second page.", "IDENT TWO_LAST"),
+    "FIRST_PAGE_ALONE": ("Its first page alone.", "IDENT"),
+    "PAGES_EXCHANGED": ("Its first two pages exchanged.", "SETUP IDENT TWO_LAST"),
+    "NINE_CHANNELS": ("Nine channels.", "NINE_IDENT SETUP TWO_LAST"),
+    "NINE_CHANNELS_AND_COMMENT": ("Nine channels, and a comment without its framing bit.",
+                                  "NINE_IDENT WRONG_SETUP TWO_LAST"),
+    "WRONG_COMMENT": ("A comment without its framing bit.", "IDENT WRONG_SETUP TWO_LAST"),
+    "WRONG_VERSION": ("An identification of version 1.", "VERSION_IDENT SETUP TWO_LAST"),
+    "TWO_STREAMS": ("Another codec's stream, multiplexed with a Vorbis stream of two channels.",
+                    "OPUS_FIFTH STEREO_IDENT OPUS_TAGS SETUP TWO_LAST"),
+    "NUMBERS_WRAP": ("Pages numbered 2^32 - 2, 2^32 - 1 and 0.", "WRAP_IDENT WRAP_SETUP WRAP_LAST"),
+}
+
+# Small films for examples by computation.
+SMALL = {
     "SHORT": page(FIRST, 7, [b"a"]),
     "SHORT_WRONG_SUM": page(FIRST, 7, [b"a"], wrong_sum=True),
     "SHORT_BETWEEN": b"Og" + page(FIRST, 7, [b"a"]) + b"gS" + page(LAST, 8, [b"b", b""], granule=5) + b"O",
 }
 
 
+def film(name):
+    if name in SMALL:
+        return SMALL[name]
+    return b"".join(PARTS[part] for part in FILMS[name][1].split())
+
+
+def rows(head, items, columns, end):
+    """A list of items, on one line where that fits, else some of them on each."""
+    whole = head + "[" + ", ".join(items) + "]" + end
+    if len(whole) <= 100:
+        return [whole]
+    lines = [head + "["]
+    for i in range(0, len(items), columns):
+        lines.append("    " + " ".join(item + "," for item in items[i : i + columns]))
+    return lines + ["]" + end]
+
+
 def rust():
-    for name, film in FILMS.items():
-        print(f"const {name}: [u8; {len(film)}] = [")
-        for i in range(0, len(film), 16):
-            print("    " + " ".join(f"0x{b:02x}," for b in film[i : i + 16]))
-        print("];\n")
+    """The test file of the films, as it stands."""
+    lines = ["//! The films of the tests, as lists of their parts. `tools/films.py rust` writes this file."]
+    for name, part in PARTS.items():
+        lines.append("")
+        if part == LONG:
+            lines.append(f"const {name}: [u8; {len(part)}] = [0; {len(part)}];")
+        else:
+            lines += rows(f"const {name}: [u8; {len(part)}] = ", [f"0x{b:02x}" for b in part], 16, ";")
+    for name, (text, parts) in FILMS.items():
+        items = ["&" + part for part in parts.split()]
+        lines += ["", f"/// {text}"]
+        lines += rows(f"pub const {name}: [&[u8]; {len(items)}] = ", items, 1, ";")
+    print("\n".join(lines))
 
 
 def antt(names):
     for name in names:
-        print(f"-- {name}\n" + " ∷ ".join(str(b) for b in FILMS[name]) + " ∷ []")
+        print(f"-- {name}\n" + " ∷ ".join(str(b) for b in film(name)) + " ∷ []")
 
 
 if __name__ == "__main__":
@@ -137,6 +201,6 @@ if __name__ == "__main__":
         antt(sys.argv[2:])
     elif sys.argv[1:2] == ["file"] and len(sys.argv) == 4:
         with open(sys.argv[3], "wb") as out:
-            out.write(FILMS[sys.argv[2]])
+            out.write(film(sys.argv[2]))
     else:
         sys.exit(__doc__)

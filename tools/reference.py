@@ -1,12 +1,13 @@
 #!/usr/bin/env python3
-"""Floors and residues in the plain way of the Vorbis I specification, for the tables of the tests.
+"""Codebooks, floors and residues in the plain way of the Vorbis I specification, for the tables of the tests.
 
-    tools/reference.py floors      prints the table of crates/floor_one/src/tests.rt
+    tools/reference.py codebooks   prints rows of the table ENTRIES of crates/codebooks/src/tests.rt
+    tools/reference.py floors      prints crates/floor_one/src/tests/rows.rt
     tools/reference.py residues    prints the table of crates/residues/src/tests.rt
 
-It follows the specification's own procedures (sorted lists of points and line rendering in section 7,
-nested loops in section 8) and shares nothing with the crates. Setups and packets are drawn at random, by
-fixed seeds; values are whole numbers in units of 2^-16, rounded down and limited to 2^32.
+It follows the specification's own procedures (a tree of codewords in section 3, sorted lists of points and
+line rendering in section 7, nested loops in section 8) and shares nothing with the crates. Setups and packets
+are drawn at random, by fixed seeds; values are whole numbers in units of 2^-16, rounded down and limited to 2^32.
 """
 import random
 import sys
@@ -112,19 +113,16 @@ class Book:
         multiplicands = [bits.take(width) for _ in range(count)]
         return cls(dimensions, lengths, kind, minimum, delta, width, sequence, multiplicands)
 
-    def write(self):
+    def write(self, ordered=False):
         out = Writer()
         out.put(0x564342, 24)
         out.put(self.dimensions, 16)
         out.put(len(self.lengths), 24)
-        out.put(0, 1)
-        sparse = 0 in self.lengths
-        out.put(int(sparse), 1)
-        for length in self.lengths:
-            if sparse:
-                out.put(int(length > 0), 1)
-            if length:
-                out.put(length - 1, 5)
+        out.put(int(ordered), 1)
+        if ordered:
+            self.write_runs(out)
+        else:
+            self.write_lengths(out)
         out.put(self.kind, 4)
         if self.kind:
             out.put(self.minimum, 32)
@@ -134,6 +132,24 @@ class Book:
             for multiplicand in self.multiplicands:
                 out.put(multiplicand, self.width)
         return out.bytes()
+
+    def write_runs(self, out):
+        """The lengths in rising order, as how many entries have each."""
+        length, remain = self.lengths[0], len(self.lengths)
+        out.put(length - 1, 5)
+        while remain:
+            run = self.lengths.count(length)
+            out.put(run, ilog(remain))
+            length, remain = length + 1, remain - run
+
+    def write_lengths(self, out):
+        sparse = 0 in self.lengths
+        out.put(int(sparse), 1)
+        for length in self.lengths:
+            if sparse:
+                out.put(int(length > 0), 1)
+            if length:
+                out.put(length - 1, 5)
 
     def entry(self, bits):
         word = ''
@@ -376,18 +392,18 @@ FLOOR_BOOKS = [
 
 
 def floor_cases():
-    """Floors by their multiplier, numbers of values of their classes, subclass bits and range, with a packet each."""
+    """Named floors by their multiplier, numbers of values of their classes, subclass bits and range, with a packet each."""
     rng = random.Random(7)
     shapes = [
-        (1, [3, 2], [0, 1], 6, [0, 1, 0]),
-        (2, [4, 1], [2, 0], 7, [1, 0, 1, 0]),
-        (3, [2, 3], [1, 3], 5, [0, 1, 1]),
-        (4, [1, 8], [0, 0], 6, [1, 0]),
-        (4, [8, 7], [0, 0], 10, [0] * 7 + [1]),
-        (1, [1], [0], 4, []),
-        (2, [3], [1], 6, [0, 0, 0]),
+        ('two classes, one with two subclasses', 1, [3, 2], [0, 1], 6, [0, 1, 0]),
+        ('four subclasses in turn with none', 2, [4, 1], [2, 0], 7, [1, 0, 1, 0]),
+        ('eight subclasses', 3, [2, 3], [1, 3], 5, [0, 1, 1]),
+        ('a class of eight values and no subclass', 4, [1, 8], [0, 0], 6, [1, 0]),
+        ('65 points', 4, [8, 7], [0, 0], 10, [0] * 7 + [1]),
+        ('no partitions', 1, [1], [0], 4, []),
+        ('three partitions of one class', 2, [3], [1], 6, [0, 0, 0]),
     ]
-    for multiplier, dimensions, subclass_bits, range_bits, partitions in shapes:
+    for name, multiplier, dimensions, subclass_bits, range_bits, partitions in shapes:
         classes = []
         for values, width in zip(dimensions, subclass_bits):
             books = [rng.choice([None, 0, 1, 1, 2]) for _ in range(1 << width)]
@@ -399,24 +415,75 @@ def floor_cases():
         xs = rng.sample(range(1, 1 << range_bits), count)
         floor = Floor(partitions, classes[:used], multiplier, range_bits, xs)
         packet = [rng.randrange(256) | 1] + [rng.randrange(256) for _ in range(8 + count * 9 // 8)]
-        yield floor, packet
-        yield floor, packet[:5]
+        yield name, floor, packet
+        yield f'{name}, of a packet of five bytes', floor, packet[:5]
 
 
 def print_books(books):
     for number, book in enumerate(books):
         data = book.write()
-        print(f'const BOOK_{number}: [u8; {len(data)}] = {text(data)[1:]};')
+        print(f'/// Book {number}.')
+        print(f'pub const BOOK_{number}: [u8; {len(data)}] = {text(data)[1:]};\n')
+
+
+def codebook_cases():
+    """Books with what they show, and entries that a packet of their codewords names."""
+    rng = random.Random(15)
+    deep = list(range(1, 25)) + [24]
+    for _ in range(20):
+        place = rng.randrange(1, len(deep))
+        if deep[place] < 24:
+            deep[place:place + 1] = [deep[place] + 1] * 2
+    mixed = rng.sample(deep, len(deep))
+    holes = list(mixed)
+    for _ in range(15):
+        holes.insert(rng.randrange(len(holes) + 1), 0)
+    for name, lengths, ordered in [
+        ('mixed lengths of 1 to 24', mixed, False),
+        ('mixed lengths of 1 to 24, sparse', holes, False),
+        ('lengths of 1 to 24 in order', sorted(deep), True),
+    ]:
+        book = Book(1, lengths)
+        used = [entry for entry, length in enumerate(lengths) if length]
+        entries = [rng.choice(used) for _ in range(24)]
+        words = {entry: word for word, entry in book.words.items()}
+        out = Writer()
+        out.bits = [int(digit) for entry in entries for digit in words[entry]]
+        yield name, book.write(ordered), out.bytes(), entries
+
+
+def print_codebooks():
+    for name, book, packet, entries in codebook_cases():
+        bits, read = Bits(packet), Book.read(Bits(book))
+        assert [read.entry(bits) for _ in entries] == entries
+        print(f'("{name}", {text(book)}, {text(packet)}, {text(entries)}),')
 
 
 def print_floors():
+    print("""//! Printed by `tools/reference.py floors`, and laid out by `rt fmt`: floors and packets, and what
+//! the standard's own procedures read from them.
+
+/// A floor and a packet, and what is read.
+pub struct Row {
+    pub name: &'static str,
+    pub floor: &'static [u8],
+    pub packet: &'static [u8],
+    /// The curve up to behind its last point, none where the floor is unused.
+    pub curve: &'static [u8],
+    /// How many bits are left.
+    pub left: u32,
+}
+""")
     print_books(FLOOR_BOOKS)
-    for floor, packet in floor_cases():
+    cases = list(floor_cases())
+    print(f'pub const ROWS: [Row; {len(cases)}] = [')
+    for name, floor, packet in cases:
         bits = Bits(packet)
         ys = floor.values(bits, FLOOR_BOOKS)
         curve = [] if ys is None else floor.curve(floor.finals(ys), min(floor.xs[1] + 8, 72))
         left = 0 if ys is None else len(bits.bits) - bits.at
-        print(f'({text(floor.write())}, {text(packet)}, {text(curve)}, {left}),')
+        print(f'Row {{ name: "{name}", floor: {text(floor.write())}, packet: {text(packet)}, curve: {text(curve)}, left: {left} }},')
+    print('];')
 
 
 RESIDUE_BOOKS = [
@@ -428,24 +495,27 @@ RESIDUE_BOOKS = [
 
 
 def residue_cases():
-    """Residues by type, range, partition size, cascades and wanted vectors, with a packet each."""
+    """Residues with what they show, a packet each, the wanted vectors and their size."""
     rng = random.Random(11)
     one, two = [2, None, None, None, None, None, None, None], [None, 1, None, 3, None, None, None, None]
     shapes = [
-        # five partitions in groups of two: the last group is short
-        (1, 1, 11, 2, [one, two, [3] * 8], [True, False, True], 12, 14),
-        # it begins past the length
-        (0, 14, 30, 3, [one], [True], 12, 4),
-        # all eight passes
-        (2, 0, 12, 3, [[1, 2, 3, 1, 2, 3, 1, 2]], [False, True], 6, 30),
-        (0, 0, 12, 6, [[3] * 8, [2] * 8], [True, True], 12, 40),
-        # the packet ends within a partition of many readings
-        (1, 0, 12, 12, [[3] * 8], [True], 12, 2),
-        (2, 0, 24, 12, [[2] * 8], [True, True, False], 8, 3),
+        ('in a row, the last group short, one vector not wanted',
+         1, 1, 11, 2, [one, two, [3] * 8], [True, False, True], 12, 14),
+        ('spread, begins past the vector',
+         0, 14, 30, 3, [one], [True], 12, 4),
+        ('interleaved, books in all eight passes, one of two wanted',
+         2, 0, 12, 3, [[1, 2, 3, 1, 2, 3, 1, 2]], [False, True], 6, 30),
+        ('spread, sums at the limit',
+         0, 0, 12, 6, [[3] * 8, [2] * 8], [True, True], 12, 40),
+        ('in a row, the packet ends within a partition',
+         1, 0, 12, 12, [[3] * 8], [True], 12, 2),
+        ('interleaved over three vectors, the packet ends within a partition',
+         2, 0, 24, 12, [[2] * 8], [True, True, False], 8, 3),
     ]
-    for kind, begin, end, size, cascades, wanted, count, length in shapes:
+    for name, kind, begin, end, size, cascades, wanted, count, length in shapes:
         residue = Residue(kind, begin, end, size, 0, cascades)
-        yield residue, [rng.randrange(256) for _ in range(length)], wanted, count
+        yield name, residue, [rng.randrange(256) for _ in range(length)], wanted, count
+    kinds = ['spread', 'in a row', 'interleaved']
     for number in range(6):
         kind = number % 3
         cascades = [[rng.choice([None, None, 1, 2, 3]) for _ in range(8)] for _ in range(rng.randrange(1, 5))]
@@ -454,21 +524,23 @@ def residue_cases():
         count = rng.randrange(8, 14)
         begin = rng.randrange(0, 6)
         residue = Residue(kind, begin, begin + rng.randrange(8, 40), size, 0, cascades)
-        yield residue, [rng.randrange(256) for _ in range(rng.choice([5, 10, 20]))], wanted, count
+        name = f'{kinds[kind]}, {sum(wanted)} of {len(wanted)} wanted, partitions of {size} from {begin} on'
+        yield name, residue, [rng.randrange(256) for _ in range(rng.choice([5, 10, 20]))], wanted, count
 
 
 def print_residues():
     print_books(RESIDUE_BOOKS)
-    for residue, packet, wanted, count in residue_cases():
+    for name, residue, packet, wanted, count in residue_cases():
         bits = Bits(packet)
         vectors = residue.decode(bits, RESIDUE_BOOKS, wanted, count)
         values = text(value for vector in vectors for value in vector)
         flags = text(str(w).lower() for w in wanted)
-        print(f'({residue.kind}, {text(residue.write())}, {text(packet)}, {flags}, {values}, {len(bits.bits) - bits.at}),')
+        print(f'Decoded {{ name: "{name}", kind: {residue.kind}, setup: {text(residue.write())}, '
+              f'packet: {text(packet)}, wanted: {flags}, values: {values}, left: {len(bits.bits) - bits.at} }},')
 
 
 if __name__ == '__main__':
-    tables = {'floors': print_floors, 'residues': print_residues}
+    tables = {'codebooks': print_codebooks, 'floors': print_floors, 'residues': print_residues}
     if len(sys.argv) != 2 or sys.argv[1] not in tables:
         sys.exit(__doc__)
     tables[sys.argv[1]]()
