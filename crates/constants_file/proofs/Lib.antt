@@ -1,3 +1,4 @@
 pub mod Finding
 pub mod Sections
 pub mod SlopeSizes
+pub mod TurnPlaces

@@ -1,6 +1,5 @@
 -- The sections of a file's numbers, and the ranges of the tables that they make.
-use Rattle.std.proofs.Common.{◌≡◌, ℕ, ◌+◌, ◌-◌, ◌*◌, ◌/◌, ◌^◌, ◌<◌, ◌≤◌, ◌∙◌, sym, ap, subst, List, [], ◌∷◌, ◌++◌, length, get_or, take, drop, map, Bool, true, false, None, inl, inr, arith, length-drop, length-take, refl, lit≤}
-use Rattle.std.specs.List.{range_with_len, find}
+use Rattle.std.proofs.Common.{◌≡◌, ℕ, ◌+◌, ◌-◌, ◌*◌, ◌^◌, ◌<◌, ◌≤◌, ◌∙◌, sym, ap, subst, List, [], ◌∷◌, ◌++◌, length, get_or, take, drop, false, None, inl, inr, arith, length-drop, length-take, refl, lit≤}
 use Rattle.std.proofs.lemmas.List.{take_more, get_or-drop, get_or-take, get_or_past}
 use Rattle.std.proofs.lemmas.List.FromFn.{length-map-range_with_len, get_or-map-range_with_len}
 use Rattle.std.proofs.lemmas.Bool.{cases_lt, lt-ltb, le-ltb, cond-true, cond-false, ltb-false}

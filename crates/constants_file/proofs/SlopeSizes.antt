@@ -1,5 +1,5 @@
 -- How many values stand before the slope of a size.
-use Rattle.std.proofs.Common.{◌≡◌, ℕ, zero, suc, ◌+◌, ◌-◌, ◌^◌, ◌<◌, ◌≤◌, ◌∙◌, sym, ap, subst, refl, lit≤, arith}
+use Rattle.std.proofs.Common.{◌≡◌, ℕ, zero, suc, ◌+◌, ◌-◌, ◌^◌, ◌≤◌, ◌∙◌, sym, ap, subst, refl, lit≤, arith}
 use Rattle.model_synthesis.specs.Tables.{slopes_before, IsSlopeSize}
 
 pub record HasPlace (size : ℕ) : Type 0 where

@@ -1,44 +1,52 @@
-ghost use Rattle.std.specs.Prelude.{◌≡◌, ◌≤◌, ◌<◌, ◌+◌, ◌*◌, ◌/◌, ◌%◌, ◌^◌, pos, slice_index, unsigned_abs, IfOk};
+ghost use Rattle.std.specs.Prelude.{◌≡◌, ◌≤◌, ◌<◌, ◌+◌, ◌*◌, ◌/◌, ◌%◌, ◌^◌, length, unsigned_abs, None, IfOk};
+ghost use Rattle.std.specs.List.{All};
 ghost use Rattle.sequence.specs.Answers.{Answers};
 ghost use Rattle.model_setup.specs.HeaderPackets.{IsBlockSize};
-ghost use Rattle.model_synthesis.specs.declared.constants.TheConstants.{COSINE_COUNT, GREATEST_DECIBEL, SLOPE_COUNT};
-ghost use Rattle.model_synthesis.specs.Tables.{AreTables, IsSlopeSize, decibel, slopes_before, slope, cosq};
-ghost use Rattle.model_synthesis.specs.ConstantsFile.{constants_of};
+ghost use Rattle.model_synthesis.specs.declared.constants.TheConstants.{COSINE_COUNT, DECIBEL_COUNT, GREATEST_DECIBEL, SCALE, SLOPE_COUNT};
+ghost use Rattle.model_synthesis.specs.Tables.{AreTables, IsSlopeSize, decibel, slopes_before, slope, turn_of, cosq};
+ghost use Rattle.model_synthesis.specs.ConstantsFile.{first_past, numbers_of, tables_of, constants_of};
 
 use crate::file::{check_ranges, file_body, read_section};
-use model_synthesis::{COSINE_COUNT, ConstantsFault, DECIBEL_COUNT, SLOPE_COUNT, SMALLEST_SLOPE};
-use std::alloc::Global;
+use crate::turns::{LEAST_EXPONENT, Turn, lay_out_turns};
+use model_synthesis::{
+    COSINE_COUNT, ConstantsFault, DECIBEL_COUNT, SCALE, SLOPE_COUNT, SMALLEST_SLOPE,
+};
+use std::alloc::{AllocError, Global};
 use std::marker::Model;
 
 /// The decibel values, window slopes and cosines that a synthesis works with.
 #[derive(Debug, Drop)]
 pub struct Constants {
+    /// Slopes and cosines are in units of 2 to the power of minus this.
+    scale: u32,
     decibels: Vec<u32>,
     /// The slopes of all sizes, the shortest first.
     slopes: Vec<u32>,
     /// The cosines of a quarter turn.
     cosines: Vec<u32>,
+    /// The turns of all block sizes, the shortest first.
+    turns: Vec<Turn>,
 }
 
 impl Model for Constants {
-    ghost use Rattle.model_synthesis.specs.declared.constants.TheConstants.{SCALE};
-    ghost use Rattle.model_synthesis.specs.Tables.{ConstantTables, AreTables};
+    ghost use Rattle.std.specs.Prelude.{◌≡◌};
+    ghost use Rattle.model_synthesis.specs.Tables.{ConstantTables, AreTables, turns_of};
 
     ghost Value = { ConstantTables };
 
     ghost view = { λ a. record {
-      scale = SCALE;
+      scale = a.scale;
       decibels = a.decibels.items;
       slopes = a.slopes.items;
       cosines = a.cosines.items;
     } };
 
     ghost invariant = { λ a. AreTables (record {
-      scale = SCALE;
+      scale = a.scale;
       decibels = a.decibels.items;
       slopes = a.slopes.items;
       cosines = a.cosines.items;
-    }) };
+    }) × (a.turns.items ≡ turns_of a.cosines.items) };
 }
 
 /// Where the value at a place of the slope of this size stands. The slopes before it, each half as
@@ -52,6 +60,25 @@ fn slope_place(size: u32, place: u32) -> usize
     (size - SMALLEST_SLOPE + place) as usize
 }
 
+/// The constants whose numbers are those behind the word of a right file.
+fn constants_in(alloc: Global, body: &[u8]) -> Result<Constants, AllocError>
+    requires size { length body.now ≡ 4 * (DECIBEL_COUNT + SLOPE_COUNT + COSINE_COUNT) }
+    requires right { first_past body.now ≡ None }
+    ensures { IfOk result (λ constants. constants ≡ tables_of (numbers_of body.now)) }
+{
+    let decibels = read_section(alloc, body, 0, DECIBEL_COUNT)?;
+    let slopes = read_section(alloc, body, DECIBEL_COUNT, SLOPE_COUNT)?;
+    let cosines = read_section(alloc, body, DECIBEL_COUNT + SLOPE_COUNT, COSINE_COUNT)?;
+    let turns = lay_out_turns(alloc, &cosines)?;
+    Ok(Constants {
+        scale: SCALE,
+        decibels,
+        slopes,
+        cosines,
+        turns,
+    })
+}
+
 impl Constants {
     /// Reads a constants file, or gives the first cause why it is none, in this order: it begins
     /// otherwise than with `VFCONST1`, it hasn't 66,440 bytes, or a number is past its greatest
@@ -63,11 +90,15 @@ impl Constants {
     {
         let body = file_body(bytes)?;
         check_ranges(body)?;
-        Ok(Constants {
-            decibels: read_section(alloc, body, 0, DECIBEL_COUNT)?,
-            slopes: read_section(alloc, body, DECIBEL_COUNT, SLOPE_COUNT)?,
-            cosines: read_section(alloc, body, DECIBEL_COUNT + SLOPE_COUNT, COSINE_COUNT)?,
-        })
+        Ok(constants_in(alloc, body)?)
+    }
+
+    /// Slopes and cosines are in units of 2 to the power of minus this.
+    pub fn scale(&self) -> u32
+        ensures value { result ≡ self.now.scale }
+        ensures most { result ≤ SCALE }
+    {
+        self.scale
     }
 
     /// The decibel value of a height of a curve, in units of 2^-30 (Vorbis I, section 10.1).
@@ -89,36 +120,26 @@ impl Constants {
         self.slopes[slope_place(size, place)]
     }
 
-    /// The cosine in the first quarter of a turn, after so many steps.
-    fn first_quarter(&self, block: u32, u: u64) -> i64
+    /// The cosines of the odd numbers of steps of one turn, of which a block of this size has four
+    /// times its size: at place j that of 2 * j + 1 steps. They are in units of 2^-scale.
+    pub fn turn(&self, block: u32) -> &[i32]
         requires block { IsBlockSize block }
-        requires within { u < block }
-        ensures value { result ≡ pos (slice_index self.now.cosines (u * (COSINE_COUNT / block))) }
-        ensures small { unsigned_abs result ≤ 2 ^ self.now.scale }
+        ensures values { result.now ≡ turn_of self.now.cosines block }
+        ensures count { length result.now ≡ 2 * block }
+        ensures small { All (λ c. unsigned_abs c ≤ 2 ^ self.now.scale) result.now }
     {
-        let step = COSINE_COUNT as u64 / u64::from(block);
-        i64::from(self.cosines[(u * step) as usize])
+        self.turns[(block.ilog2() - LEAST_EXPONENT) as usize].items()
     }
 
     /// The cosine of an odd number of steps, of which a block of this size has four times its size
-    /// in a turn, in units of 2^-23.
-    #[tactic(auto, unfolding(model_synthesis::specs::Tables::wave))]
+    /// in a turn, in units of 2^-scale.
     pub fn cosq(&self, block: u32, t: u64) -> i64
         requires block { IsBlockSize block }
         requires odd { t % 2 ≡ 1 }
         ensures value { result ≡ cosq self.now block t }
         ensures small { unsigned_abs result ≤ 2 ^ self.now.scale }
     {
-        let size = u64::from(block);
-        let u = t % (4 * size);
-        if u < size {
-            self.first_quarter(block, u)
-        } else if u < 2 * size {
-            -self.first_quarter(block, 2 * size - u)
-        } else if u < 3 * size {
-            -self.first_quarter(block, u - 2 * size)
-        } else {
-            self.first_quarter(block, 4 * size - u)
-        }
+        let place = t % (4 * u64::from(block)) / 2;
+        i64::from(self.turn(block)[place as usize])
     }
 }

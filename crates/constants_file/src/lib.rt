@@ -4,6 +4,7 @@
 
 mod constants;
 mod file;
+mod turns;
 
 pub use constants::Constants;
 pub use model_synthesis::ConstantsFault;

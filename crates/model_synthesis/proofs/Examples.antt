@@ -1,8 +1,8 @@
 -- The definitions on small values.
-use Rattle.std.proofs.Common.{◌≡◌, refl, ℕ, ◌+◌, pos, negsuc, [], ◌∷◌, Ok, Err, Some, None}
+use Rattle.std.proofs.Common.{◌≡◌, refl, ◌+◌, pos, negsuc, [], ◌∷◌, Err, Some, None}
 use Rattle.std.specs.Prelude.{codes}
-use Rattle.model_synthesis.specs.declared.constants.ConstantsFault.TheVariants.{Magic, Length, Range}
-use Rattle.model_synthesis.specs.Tables.{wave, slopes_before, slope}
+use Rattle.model_synthesis.specs.declared.constants.ConstantsFault.TheVariants.{Magic, Length}
+use Rattle.model_synthesis.specs.Tables.{wave, slopes_before}
 use Rattle.model_synthesis.specs.ConstantsFile.{constants_of, number_at, first_past}
 
 -- four steps a quarter, of which the first is 10, 11, 12, 13

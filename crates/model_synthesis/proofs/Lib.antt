@@ -1,3 +1,11 @@
 pub mod Waves
 pub mod Examples
 pub mod BlockSizes
+pub mod Sums
+pub mod Halves
+pub mod SynthesisExamples
+pub mod Turns
+pub mod WindowParts
+pub mod Overlapping
+pub mod Nearest
+pub mod WindowExamples

@@ -1,5 +1,5 @@
--- What a wave is half a turn on, and backwards.
-use Rattle.std.proofs.Common.{◌≡◌, ℕ, ◌+◌, ◌-◌, ◌*◌, ◌%◌, ◌/◌, ◌<◌, ◌≤◌, ◌∙◌, sym, ap, inl, inr, arith, ℤ, neg_ℤ}
+-- What a wave is half a turn on, and backwards; and how large it is.
+use Rattle.std.proofs.Common.{◌≡◌, ℕ, ◌+◌, ◌-◌, ◌*◌, ◌%◌, ◌/◌, ◌<◌, ◌≤◌, ◌∙◌, sym, ap, subst, inl, inr, arith, zero, suc, ℤ, pos, negsuc, neg_ℤ, unsigned_abs}
 use Rattle.std.proofs.Math.IntN.{neg_ℤ-neg_ℤ}
 use Rattle.std.proofs.Math.Nat.{add-mul-mod_self_right, add-mod, mul-mod_left, mod-lt, mod-mod, mod-eq_of_lt, mod-eq-sub-mod, div-add-mod'}
 use Rattle.std.proofs.lemmas.Bool.{cases_lt, lt-ltb, le-ltb, cond-true, cond-false}
@@ -104,12 +104,13 @@ module _ (size : ℕ) (f : ℕ → ℤ) where
       let place : t + (2 * q + 1) * (2 * size) ≡ t + 2 * size + q * (4 * size) = omega arith in
       ap (wave size f) place ∙ (wave_turns (t + 2 * size) q ∙ wave_half t some)
 
-  pub wave_first : (u : ℕ) → u < size → wave size f u ≡ f u
+  -- within one turn
+  pub wave_within : (u : ℕ) → u < 4 * size → wave size f u ≡ quarters size f u
   unfolding wave
-  wave_first u h =
-      let within : u < 4 * size = omega arith in
-      let place : u % (4 * size) ≡ u = mod-eq_of_lt within in
-      ap (quarters size f) place ∙ first u h
+  wave_within u h = ap (quarters size f) (mod-eq_of_lt h)
+
+  pub wave_first : (u : ℕ) → u < size → wave size f u ≡ f u
+  wave_first u h = wave_within u (omega arith) ∙ first u h
 
   -- two steps that make an odd number of half turns
   pub wave_back : (t u q : ℕ) → t + u ≡ (2 * q + 1) * (2 * size) → t % 2 ≡ 1 → size % 2 ≡ 0 → 0 < size → wave size f u ≡ neg_ℤ (wave size f t)
@@ -120,3 +121,33 @@ module _ (size : ℕ) (f : ℕ → ℤ) where
   pub wave_rest : (t : ℕ) → wave size f (t % (4 * size)) ≡ wave size f t
   unfolding wave
   wave_rest t = ap (quarters size f) (mod-mod t (4 * size))
+
+  -- no step is larger than those of the first quarter
+  module _ (most : ℕ) (small : (u : ℕ) → unsigned_abs (f u) ≤ most) where
+    quarters_small : (u : ℕ) → unsigned_abs (quarters size f u) ≤ most
+    quarters_small u = elim (cases_lt u size) [
+      | inl low ↦ at (f u) (small u) (first u low)
+      | inr high ↦ elim (cases_lt u (2 * size)) [
+        | inl low ↦
+            let v : ℕ = 2 * size - u in
+            at (neg_ℤ (f v)) (negated (f v) (small v)) (second u v high low (omega arith))
+        | inr higher ↦ elim (cases_lt u (3 * size)) [
+          | inl low ↦
+              let v : ℕ = u - 2 * size in
+              at (neg_ℤ (f v)) (negated (f v) (small v)) (third u v higher low (omega arith))
+          | inr last ↦ at (f (4 * size - u)) (small (4 * size - u)) (cond-false _ _ _ (le-ltb u size high) ∙ (cond-false _ _ _ (le-ltb u (2 * size) higher) ∙ cond-false _ _ _ (le-ltb u (3 * size) last)))
+        ]
+      ]
+    ]
+      where
+        at : {x : ℤ} (z : ℤ) → unsigned_abs z ≤ most → x ≡ z → unsigned_abs x ≤ most
+        at z h e = subst (λ y. unsigned_abs y ≤ most) (sym e) h
+
+        negated : (z : ℤ) → unsigned_abs z ≤ most → unsigned_abs (neg_ℤ z) ≤ most
+        negated (pos zero) h = h
+        negated (pos (suc n)) h = h
+        negated (negsuc n) h = h
+
+    pub wave_small : (t : ℕ) → unsigned_abs (wave size f t) ≤ most
+    unfolding wave
+    wave_small t = quarters_small (t % (4 * size))

@@ -2,3 +2,11 @@ pub mod Tables
 pub mod ConstantsFile
 pub mod ConstantsTexts
 pub mod CosineLaws
+pub mod Coupling
+pub mod Spectrum
+pub mod Transform
+pub mod SynthesisLaws
+pub mod Windows
+pub mod Overlaps
+pub mod Samples
+pub mod WindowLaws

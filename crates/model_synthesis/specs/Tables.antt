@@ -1,6 +1,6 @@
 -- The constants of a synthesis in whole numbers, and what its calls take from them.
-use Rattle.std.specs.Prelude.{◌≡◌, ℕ, zero, suc, ◌+◌, ◌-◌, ◌*◌, ◌/◌, ◌%◌, ◌^◌, ◌≤◌, ℤ, pos, neg_ℤ, nat_lt, if◌then◌else◌, List, [], ◌∷◌, length, slice_index, sum}
-use Rattle.std.specs.List.{filter}
+use Rattle.std.specs.Prelude.{◌≡◌, ℕ, ◌+◌, ◌-◌, ◌*◌, ◌/◌, ◌%◌, ◌^◌, ◌≤◌, ℤ, pos, neg_ℤ, nat_lt, if◌then◌else◌, List, [], ◌∷◌, length, map, slice_index, sum}
+use Rattle.std.specs.List.{filter, range_with_len}
 use Rattle.model_synthesis.specs.declared.constants.TheConstants.{DECIBEL_COUNT, SLOPE_COUNT, COSINE_COUNT, GREATEST_DECIBEL, SCALE}
 
 -- Decibel values are in units of 2 ^ -30, slopes and cosines in units of 2 ^ -scale. A decibel
@@ -61,7 +61,19 @@ quarters size first u =
 unfoldable pub wave : ℕ → (ℕ → ℤ) → ℕ → ℤ
 wave size first t = quarters size first (t % (4 * size))
 
+-- the cosine in the first quarter of a turn of 4 * size steps, after u of them
+abbrev pub first_quarter : List ℕ → ℕ → ℕ → ℤ
+first_quarter cosines size u = pos (slice_index cosines (u * (COSINE_COUNT / size)))
+
 -- the cosine of t steps, of which a block of a size has four times its size in a turn; t is odd
 abbrev pub cosq : ConstantTables → ℕ → ℕ → ℤ
-cosq tables size t =
-    wave size (λ u. pos (slice_index tables.cosines (u * (COSINE_COUNT / size)))) t
+cosq tables size = wave size (first_quarter tables.cosines size)
+
+-- the cosines of the odd numbers of steps of one turn: at place j that of 2 * j + 1
+unfoldable pub turn_of : List ℕ → ℕ → List ℤ
+turn_of cosines size =
+    map (λ j. wave size (first_quarter cosines size) (2 * j + 1)) (range_with_len 0 (2 * size))
+
+-- those of all block sizes, the shortest first
+abbrev pub turns_of : List ℕ → List (List ℤ)
+turns_of cosines = map (λ e. turn_of cosines (2 ^ e)) (range_with_len 6 8)

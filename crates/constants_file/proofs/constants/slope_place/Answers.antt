@@ -1,4 +1,4 @@
-use Rattle.std.proofs.Common.{◌≡◌, ◌-◌, ◌+◌, ◌∙◌, ap, sym, arith}
+use Rattle.std.proofs.Common.{◌+◌, ap, sym, arith}
 use Rattle.constants_file.proofs.SlopeSizes.{slope_size_place}
 use Rattle.constants_file.proofs.constants.slope_place.Goals as goal
 

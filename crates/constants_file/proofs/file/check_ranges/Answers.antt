@@ -1,4 +1,4 @@
-use Rattle.std.proofs.Common.{◌≡◌, ◌<◌, ◌≤◌, ◌∙◌, ap, sym, Err, true, false, arith}
+use Rattle.std.proofs.Common.{◌≡◌, ◌∙◌, ap, sym, Err, true, false, arith}
 use Rattle.std.proofs.lemmas.Bool.{lt-ltb, le-ltb}
 use Rattle.model_synthesis.specs.declared.constants.ConstantsFault.TheVariants.{Range}
 use Rattle.model_synthesis.specs.ConstantsFile.{number_at, number_count, greatest_at, is_past, tables_unless}

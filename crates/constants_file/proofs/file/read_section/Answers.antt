@@ -1,4 +1,4 @@
-use Rattle.std.proofs.Common.{◌≡◌, ◌-◌, ◌∙◌, ◌++◌, [], ◌∷◌, ap, sym, arith}
+use Rattle.std.proofs.Common.{◌-◌, ◌∙◌, ◌++◌, [], ◌∷◌, ap, sym, arith}
 use Rattle.model_synthesis.specs.ConstantsFile.{numbers_of, section}
 use Rattle.constants_file.proofs.Sections.{section_more}
 use Rattle.constants_file.proofs.file.read_section.Goals as goal

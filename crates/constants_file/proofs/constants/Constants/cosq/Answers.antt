@@ -1,19 +1,18 @@
-use Rattle.std.proofs.Common.{◌≡◌, ◌*◌, ◌%◌, ◌<◌, arith}
-use Rattle.std.proofs.Math.Nat.{div-add-mod'}
-use Rattle.model_synthesis.proofs.BlockSizes.{block_size_even, block_size_some}
+use Rattle.std.proofs.Common.{◌∙◌, ◌*◌, ◌%◌, ◌/◌, ℕ, ap, List, ℤ, pos, get_or, rules, w32, w64, FitsSigned}
+use Rattle.std.proofs.lemmas.Int.{to_z-of_z}
+use Rattle.model_synthesis.specs.Tables.{turn_of}
+use Rattle.constants_file.proofs.TurnPlaces.{at_rest}
 use Rattle.constants_file.proofs.constants.Constants.cosq.Goals as goal
 
-pub first_quarter-requires-then-u-size-2-clause-within :
-    goal.first_quarter-requires-then-u-size-2-clause-within
-first_quarter-requires-then-u-size-2-clause-within c =
-    let whole = div-add-mod' c.args.t (4 * c.from-size.result) in
-    let even : c.args.block % 2 ≡ 0 = block_size_even c.args.block c.requires.block in
-    omega arith
-
-pub first_quarter-requires-else-u-size-3-clause-within :
-    goal.first_quarter-requires-else-u-size-3-clause-within
-first_quarter-requires-else-u-size-3-clause-within c =
-    let whole = div-add-mod' c.args.t (4 * c.from-size.result) in
-    let even : c.args.block % 2 ≡ 0 = block_size_even c.args.block c.requires.block in
-    let some : 0 < c.args.block = block_size_some c.args.block c.requires.block in
-    omega arith
+pub returns-clause-value : goal.returns-clause-value
+returns-clause-value c =
+    let wide = c.from.ensures in
+    let place : ℕ = c.args.t % (4 * c.from.result) / 2 in
+    let read : ℤ = get_or c.turn.result.now (c.args.t % (4 * c.from.result) / 2) (pos 0) in
+    let fits : FitsSigned w32 (get_or c.turn.result.now (c.args.t % (4 * c.from.result) / 2) (pos 0)) = search rules in
+    to_z-of_z w64 c.from-2.result (search rules)
+    ∙ (c.from-2.ensures
+    ∙ (to_z-of_z w32 read fits
+    ∙ (ap (λ (turn : List ℤ). get_or turn place (pos 0)) c.turn.ensures.values
+    ∙ (ap (λ b. get_or (turn_of c.args.self.now.cosines c.args.block) (c.args.t % (4 * b) / 2) (pos 0)) c.from.ensures
+    ∙ at_rest c.args.self.now.cosines c.args.block c.args.t (pos 0) c.requires.block c.requires.odd))))
