@@ -1,0 +1,13 @@
+pub mod IntSums
+pub mod Powers
+pub mod LineSums
+pub mod SignedResidues
+pub mod Reached
+pub mod Correlation
+pub mod PlaceLaws
+pub mod Filled
+pub mod Bounds
+pub mod Whole
+pub mod SumsAtPlaces
+pub mod LaidOut
+pub mod Pushed

@@ -1,0 +1,7 @@
+use Rattle.std.proofs.Common.{◌∙◌, length, ap}
+use Rattle.half_sums.proofs.LaidOut.{block_size_from}
+use Rattle.half_sums.proofs.tests.put_sums.Goals as goal
+
+pub half_sums-requires-clause-size : goal.half_sums-requires-clause-size
+half_sums-requires-clause-size c =
+    block_size_from (length c.deref.result.now) c.args.levels (ap length c.deref.ensures.value ∙ c.requires.size) c.requires.least c.requires.most

@@ -1,0 +1,4 @@
+pub mod HalfSums
+pub mod Places
+pub mod Blocks
+pub mod Layouts

@@ -1,0 +1,131 @@
+ghost use Rattle.std.specs.Prelude.{◌≡◌, ◌≤◌, ◌*◌, ◌^◌, length, IfOk};
+ghost use Rattle.model_setup.specs.HeaderPackets.{IsBlockSize};
+ghost use Rattle.model_synthesis.specs.Tables.{ConstantTables};
+ghost use Rattle.half_sums.specs.HalfSums.{half_sums};
+ghost use Rattle.half_sums.specs.Places.{AreBins};
+ghost use Rattle.half_sums.specs.Blocks.{AreCosines, size_of};
+ghost use Rattle.half_sums.specs.declared.transforms.TheConstants.{LEAST_LEVELS, MOST_LEVELS, SHORT_LEVELS};
+
+use crate::block::Block;
+use crate::exchange::{gather, scatter};
+use crate::making::make_block;
+use polynomial_product::Multiplier;
+use std::alloc::{AllocError, Global};
+use std::marker::Model;
+
+/// The smallest block has 2^5 bins.
+pub const LEAST_LEVELS: u32 = 5;
+
+/// The largest block has 2^12 bins.
+pub const MOST_LEVELS: u32 = 12;
+
+/// A block is short where it has at most 2^7 bins: it is worth less memory.
+const SHORT_LEVELS: u32 = 7;
+
+/// What the half sums of blocks of each size, from 64 to 8,192 values, are made with: the cosines
+/// of a quarter turn, and what is laid out from them.
+#[derive(Drop)]
+pub struct Transforms {
+    cosines: Vec<u32>,
+    multiplier: Multiplier,
+    blocks: Vec<Block>,
+}
+
+impl Model for Transforms {
+    ghost use Rattle.std.specs.Prelude.{ℕ, List};
+    ghost use Rattle.half_sums.specs.Layouts.{IsLaidOut};
+
+    ghost Value = { List ℕ };
+
+    ghost view = { λ t. t.cosines.items };
+
+    ghost invariant = { λ t. IsLaidOut t.cosines.items t.blocks.items };
+}
+
+impl Transforms {
+    /// Lays out all sizes, from the cosines of a quarter turn in units of 2^-23.
+    pub fn new(alloc: Global, cosines: Vec<u32>) -> Result<Self, AllocError>
+        requires { AreCosines cosines.items }
+        ensures { IfOk result (λ transforms. transforms ≡ cosines.items) }
+    {
+        let multiplier = Multiplier::new(alloc)?;
+        let mut blocks = Vec::new(alloc);
+        for levels in LEAST_LEVELS..MOST_LEVELS + 1 {
+            blocks.push(make_block(alloc, &multiplier, &cosines, levels)?)?;
+        }
+        Ok(Transforms {
+            cosines,
+            multiplier,
+            blocks,
+        })
+    }
+
+    /// The cosines.
+    pub fn cosines(&self) -> &[u32]
+        ensures { result.now ≡ self.now }
+    {
+        &self.cosines
+    }
+
+    /// The sums of a block of 2^levels bins, over the memory that is handed in.
+    fn sums_over(&self, levels: u32, values: &mut [u64], spectrum: &[i64], sums: &mut [i64])
+        requires least { LEAST_LEVELS ≤ levels }
+        requires most { levels ≤ MOST_LEVELS }
+        requires values { length values.old ≡ 2 ^ levels }
+        requires spectrum { length spectrum.now ≡ 2 ^ levels }
+        requires sums { length sums.old ≡ 2 ^ levels }
+        requires bins { AreBins spectrum.now }
+        ensures { (tables : ConstantTables) → tables.cosines ≡ self.now
+            → sums.new ≡ half_sums tables (size_of levels) spectrum.now }
+    {
+        let block = &self.blocks[(levels - LEAST_LEVELS) as usize];
+        gather(values, spectrum, &block.bins);
+        self.multiplier.multiply(values, &block.factor, levels);
+        scatter(sums, values, &block.sums);
+    }
+
+    /// The sums of a short block.
+    fn short_sums(&self, levels: u32, spectrum: &[i64], sums: &mut [i64])
+        requires least { LEAST_LEVELS ≤ levels }
+        requires most { levels ≤ SHORT_LEVELS }
+        requires spectrum { length spectrum.now ≡ 2 ^ levels }
+        requires sums { length sums.old ≡ 2 ^ levels }
+        requires bins { AreBins spectrum.now }
+        ensures { (tables : ConstantTables) → tables.cosines ≡ self.now
+            → sums.new ≡ half_sums tables (size_of levels) spectrum.now }
+    {
+        let mut scratch = [0u64; 1 << SHORT_LEVELS];
+        self.sums_over(levels, &mut scratch[..spectrum.len()], spectrum, sums);
+    }
+
+    /// The sums of any block.
+    fn long_sums(&self, levels: u32, spectrum: &[i64], sums: &mut [i64])
+        requires least { LEAST_LEVELS ≤ levels }
+        requires most { levels ≤ MOST_LEVELS }
+        requires spectrum { length spectrum.now ≡ 2 ^ levels }
+        requires sums { length sums.old ≡ 2 ^ levels }
+        requires bins { AreBins spectrum.now }
+        ensures { (tables : ConstantTables) → tables.cosines ≡ self.now
+            → sums.new ≡ half_sums tables (size_of levels) spectrum.now }
+    {
+        let mut scratch = [0u64; 1 << MOST_LEVELS];
+        self.sums_over(levels, &mut scratch[..spectrum.len()], spectrum, sums);
+    }
+
+    /// The sums for the first and the third quarter of a block, before their division, from its
+    /// spectrum: the bins are in units of 2^-20, and the sums in units of 2^-43.
+    pub fn half_sums(&self, spectrum: &[i64], sums: &mut [i64])
+        requires size { IsBlockSize (2 * length spectrum.now) }
+        requires sums { length sums.old ≡ length spectrum.now }
+        requires bins { AreBins spectrum.now }
+        ensures { (tables : ConstantTables) → tables.cosines ≡ self.now
+            → sums.new ≡ half_sums tables (2 * length spectrum.now) spectrum.now }
+    {
+        let levels = spectrum.len().ilog2();
+        if levels <= SHORT_LEVELS {
+            self.short_sums(levels, spectrum, sums);
+        } else {
+            self.long_sums(levels, spectrum, sums);
+        }
+    }
+}

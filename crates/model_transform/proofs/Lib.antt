@@ -1,0 +1,5 @@
+pub mod Totals
+pub mod Folding
+pub mod Values
+pub mod RemainderLaws
+pub mod Examples

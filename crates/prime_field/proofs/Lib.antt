@@ -1,0 +1,2 @@
+pub mod Congruences
+pub mod Powers
