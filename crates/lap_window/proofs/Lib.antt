@@ -1,0 +1,6 @@
+pub mod Weights
+pub mod Slopes
+pub mod Written
+pub mod Sides
+pub mod Stretches
+pub mod Powers
