@@ -74,8 +74,3 @@ behind_end i n total links le h = rw (drop_all i links le) at h
 
 pub rows_more : (i : ℕ) (links : List LinkRows) (link : LinkRows) → i < length links → link ≡ get_or links i link → rows_in (drop i links) ≡ length link.rows + rows_in (drop (i + 1) links)
 rows_more i links link lt is = link_at rows_in links i link lt is ∙ sum_by-cons (λ (x : LinkRows). length x.rows) link (drop (i + 1) links)
-
-pub facts_len : (i : ℕ) (links : List LinkRows) → length (facts_from i links) ≡ length links
-unfolding facts_from
-facts_len i [] = refl
-facts_len i (link ∷ links) = ap suc (facts_len (i + 1) links)

@@ -10,7 +10,9 @@ use Rattle.std.proofs.lemmas.List.FromFn.{length-map-range_with_len}
 use Rattle.model_line.specs.Decode.{Kind, missing, skipped, decoded, LinkEntry}
 use Rattle.model_line.specs.Origins.{overlap_len, number_after, number_behind}
 use Rattle.model_line.specs.Halves.{IsBlock, AreBlocks, AreFilmBlocks}
-use Rattle.model_line.specs.Blocks.{Values, len_of, value, value_behind_zeros, frame_between, frames_between, left_half, right_half, overlap_frame, overlap, IsEven, blocks_of, link_blocks, all_blocks, block_at}
+use Rattle.model_synthesis.specs.Coupling.{channel}
+use Rattle.model_synthesis.specs.Overlaps.{value_at, value_behind_zeros, overlap_at}
+use Rattle.model_line.specs.Blocks.{Values, len_of, frame_between, frames_between, left_half, right_half, overlap_frame, overlap, IsEven, blocks_of, link_blocks, all_blocks, block_at}
 use Rattle.model_line.specs.Laws.{LineByHalves, LineByIndex}
 use Rattle.model_line.specs.Origins.{line_origins}
 use Rattle.model_line.proofs.Spans.{line_of_listed}
@@ -76,29 +78,29 @@ half_left block even =
     let first : get_or (map (take h) block) 0 [] ≡ take h (get_or block 0 []) = ap (get_or (map (take h) block) 0) (sym (take-nil h)) ∙ get_or-map (take h) block 0 [] in
     rw first (omega (arith, length-take h (get_or block 0 []), even))
 
-value_right : (block : Values) (channel j : ℕ) → value (right_half block) channel j ≡ value block channel (len_of block / 2 + j)
+value_right : (block : Values) (c j : ℕ) → value_at (channel (right_half block) c) j ≡ value_at (channel block c) (len_of block / 2 + j)
 unfolding right_half
-value_right block channel j =
+value_right block c j =
     let h : ℕ = len_of block / 2 in
-    let at : get_or (map (drop h) block) channel [] ≡ drop h (get_or block channel []) = ap (get_or (map (drop h) block) channel) (sym (drop-nil h)) ∙ get_or-map (drop h) block channel [] in
-    rw at (get_or-drop h (get_or block channel []) j (pos 0))
+    let at : channel (map (drop h) block) c ≡ drop h (channel block c) = ap (get_or (map (drop h) block) c) (sym (drop-nil h)) ∙ get_or-map (drop h) block c [] in
+    rw at (get_or-drop h (channel block c) j (pos 0))
 
-value_left : (block : Values) (channel j : ℕ) → j < len_of block / 2 → value (left_half block) channel j ≡ value block channel j
+value_left : (block : Values) (c j : ℕ) → j < len_of block / 2 → value_at (channel (left_half block) c) j ≡ value_at (channel block c) j
 unfolding left_half
-value_left block channel j lt =
+value_left block c j lt =
     let h : ℕ = len_of block / 2 in
-    let at : get_or (map (take h) block) channel [] ≡ take h (get_or block channel []) = ap (get_or (map (take h) block) channel) (sym (take-nil h)) ∙ get_or-map (take h) block channel [] in
-    rw at (get_or-take h (get_or block channel []) j (pos 0) lt)
+    let at : channel (map (take h) block) c ≡ take h (channel block c) = ap (get_or (map (take h) block) c) (sym (take-nil h)) ∙ get_or-map (take h) block c [] in
+    rw at (get_or-take h (channel block c) j (pos 0) lt)
 
 length_left : (block : Values) → length (left_half block) ≡ length block
 unfolding left_half
 length_left block = length-map block (take (len_of block / 2))
 
-value_behind_zeros_left : (block : Values) (channel j k : ℕ) → (k ≤ j → j - k < len_of block / 2) → value_behind_zeros (left_half block) channel j k ≡ value_behind_zeros block channel j k
-value_behind_zeros_left block channel j k within =
+value_behind_zeros_left : (block : Values) (c j k : ℕ) → (k ≤ j → j - k < len_of block / 2) → value_behind_zeros (channel (left_half block) c) j k ≡ value_behind_zeros (channel block c) j k
+value_behind_zeros_left block c j k within =
     elim (cases_lt j k) [
       | inl lt ↦ rw (lt-ltb j k lt) refl
-      | inr le ↦ rw (le-ltb j k le) (value_left block channel (j - k) (within le))
+      | inr le ↦ rw (le-ltb j k le) (value_left block c (j - k) (within le))
     ]
 
 map_same : {X : Type 0} (f g : ℕ → X) (a n : ℕ) → ((j : ℕ) → a ≤ j → j < a + n → f j ≡ g j) → map f (range_with_len a n) ≡ map g (range_with_len a n)
@@ -109,8 +111,8 @@ frame_same : (a b : Values) (j : ℕ) → IsEven a → IsEven b → j < overlap_
 frame_same a b j a-even b-even lt =
     let channels : length (left_half b) ≡ length b = length_left b in
     rw (half_right a a-even, half_left b b-even, channels)
-    (map_same (λ channel. value a channel (len_of a / 2 + j) +ℤ value_behind_zeros b channel (j + len_of b / 4) (len_of a / 4)) (λ channel. value (right_half a) channel j +ℤ value_behind_zeros (left_half b) channel (j + len_of b / 4) (len_of a / 4)) 0 (length b)
-    (λ channel le more. rw (value_right a channel j, value_behind_zeros_left b channel (j + len_of b / 4) (len_of a / 4) (λ before. omega arith)) refl))
+    (map_same (λ c. value_at (channel a c) (len_of a / 2 + j) +ℤ value_behind_zeros (channel b c) (j + len_of b / 4) (len_of a / 4)) (λ c. overlap_at (len_of a) (len_of b) (channel (right_half a) c) (channel (left_half b) c) j) 0 (length b)
+    (λ c le more. rw (value_right a c j, value_behind_zeros_left b c (j + len_of b / 4) (len_of a / 4) (λ before. omega arith)) refl))
 
 overlap_same : (a b : Values) → IsEven a → IsEven b → frames_between a b ≡ overlap (right_half a) (left_half b)
 unfolding frames_between overlap

@@ -9,3 +9,5 @@ pub mod OneIndex
 pub mod SpanLinks
 pub mod IndexLaws
 pub mod Examples
+pub mod BlockPackets
+pub mod FactsAt

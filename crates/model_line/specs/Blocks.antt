@@ -1,8 +1,9 @@
 -- Decoded blocks, and the overlap of neighbouring ones (Vorbis I, section 4.3.8).
-use Rattle.std.specs.Prelude.{◌≡◌, ℕ, ◌+◌, ◌-◌, ◌*◌, ◌/◌, ◌+ℤ◌, ℤ, pos, nat_lt, if◌then◌else◌, List, [], ◌∷◌, length, map, take, drop, slice_index_or}
+use Rattle.std.specs.Prelude.{◌≡◌, ℕ, ◌+◌, ◌*◌, ◌/◌, ◌+ℤ◌, ℤ, List, [], ◌∷◌, length, map, take, drop, slice_index_or}
 use Rattle.std.specs.List.{flat_map, range_with_len}
 use Rattle.model_line.specs.Decode.{Kind, missing, skipped, decoded, LinkEntry}
-use Rattle.model_line.specs.Origins.{overlap_len}
+use Rattle.model_synthesis.specs.Coupling.{channel}
+use Rattle.model_synthesis.specs.Overlaps.{value_at, value_behind_zeros, overlap_len, overlap_at}
 
 -- a block, or half of one: the values of each channel
 abbrev pub Values : Type 0
@@ -10,16 +11,7 @@ Values = List (List ℤ)
 
 -- how many values a channel has
 abbrev pub len_of : Values → ℕ
-len_of values = length (slice_index_or values 0 [])
-
--- value j of a channel; after the last there are zeros
-abbrev pub value : Values → ℕ → ℕ → ℤ
-value values channel j = slice_index_or (slice_index_or values channel []) j (pos 0)
-
--- the value of a channel that stands at j where k zeros are put before the first
-abbrev pub value_behind_zeros : Values → ℕ → ℕ → ℕ → ℤ
-value_behind_zeros values channel j k =
-    if nat_lt j k then pos 0 else value values channel (j - k)
+len_of values = length (channel values 0)
 
 -- ---- whole blocks
 
@@ -30,8 +22,8 @@ abbrev pub frame_between : Values → Values → ℕ → List ℤ
 frame_between first second j =
     let a = len_of first in
     let b = len_of second in
-    map (λ channel. value first channel (a / 2 + j)
-    +ℤ value_behind_zeros second channel (j + b / 4) (a / 4))
+    map (λ c. value_at (channel first c) (a / 2 + j)
+    +ℤ value_behind_zeros (channel second c) (j + b / 4) (a / 4))
     (range_with_len 0 (length second))
 
 -- the frames between two blocks: from the middle of the first to the middle of the second
@@ -52,9 +44,7 @@ abbrev pub overlap_frame : Values → Values → ℕ → List ℤ
 overlap_frame right left j =
     let a = 2 * len_of right in
     let b = 2 * len_of left in
-    map (λ channel. value right channel j
-    +ℤ value_behind_zeros left channel (j + b / 4) (a / 4))
-    (range_with_len 0 (length left))
+    map (λ c. overlap_at a b (channel right c) (channel left c) j) (range_with_len 0 (length left))
 
 -- the frames between a right half and a left half
 unfoldable pub overlap : Values → Values → List (List ℤ)

@@ -1,5 +1,5 @@
 -- What holds of every line and of every index.
-use Rattle.std.specs.Prelude.{◌≡◌, ℕ, ◌+◌, ◌-◌, ◌≤◌, Bool, true, false, nat_lt, if◌then◌else◌, [], ◌∷◌, List, None, All, map, sum_by, count_by}
+use Rattle.std.specs.Prelude.{◌≡◌, ℕ, ◌+◌, ◌-◌, ◌≤◌, Bool, true, false, nat_lt, if◌then◌else◌, [], ◌∷◌, List, None, All, map, length, sum_by, count_by}
 use Rattle.std.specs.List.{AllPairs}
 use Rattle.std.specs.List.Sorted.{IsNonDecreasing}
 use Rattle.model_line.specs.declared.row.LinkRows.{LinkRows}
@@ -14,6 +14,8 @@ use Rattle.model_line.specs.Lines.{link_cuts, link_line, line}
 use Rattle.model_line.specs.Origins.{overlap_len, frame_numbers, entries_of, line_origins, starts_from, listed, line_of, number_behind, HasFrame, IsBefore, HaveStarts}
 use Rattle.model_line.specs.Halves.{sizes_of, AreFilmBlocks, OfFilmBlocks}
 use Rattle.model_line.specs.Index.{Indexed, facts_of, Indexes}
+use Rattle.model_line.specs.Acceptance.{FilmLink}
+use Rattle.model_line.specs.PacketRows.{rows_of, block_packets}
 use Rattle.model_line.specs.Blocks.{Values, len_of, frames_between, overlap, left_half, right_half, IsEven, block_at}
 
 -- ---- the trims
@@ -126,3 +128,10 @@ LineByIndex = (rows : List LinkRows) (index : Indexed) (links : List (List (Link
     → Indexes rows index → map entries_of rows ≡ sizes_of len_of links → OfFilmBlocks IsEven links
     → line_of overlap (λ k. right_half (block_at links k)) (λ k. left_half (block_at links k))
     index.items ≡ line frames_between 0 links
+
+-- ---- the blocks of a film
+
+-- An index counts as many blocks as packets of the film decode to one.
+abbrev pub BlocksAreCounted : Type 0
+BlocksAreCounted = (links : List FilmLink) (index : Indexed) → Indexes (map rows_of links) index
+    → index.blocks ≡ length (block_packets links)

@@ -6,3 +6,8 @@ pub mod Halves
 pub mod Index
 pub mod Blocks
 pub mod Laws
+pub mod LinkFaults
+pub mod FaultTexts
+pub mod LinkTests
+pub mod Acceptance
+pub mod PacketRows

@@ -1,6 +1,6 @@
 -- The line by origins: each frame is known by the two blocks between which it lies and its number
 -- there. What an index lists are these origins.
-use Rattle.std.specs.Prelude.{◌≡◌, ℕ, ◌+◌, ◌-◌, ◌/◌, ◌<◌, List, [], ◌∷◌, map, slice_range, if◌then◌else◌, Bool}
+use Rattle.std.specs.Prelude.{◌≡◌, ℕ, ◌+◌, ◌-◌, ◌<◌, List, [], ◌∷◌, map, slice_range, if◌then◌else◌, Bool}
 use Rattle.std.specs.List.{flat_map, range_with_len}
 use Rattle.model_line.specs.declared.row.GapKind.TheVariants as kinds
 use Rattle.model_line.specs.declared.row.RowKind.{RowKind}
@@ -11,11 +11,7 @@ use Rattle.model_line.specs.declared.item.Item.{Item}
 use Rattle.model_line.specs.declared.item.Item.TheVariants as variants
 use Rattle.model_line.specs.Decode.{Kind, missing, skipped, decoded, LinkEntry, LineItem, frame, gap, frame_count}
 use Rattle.model_line.specs.Lines.{line}
-
--- How many frames two neighbouring blocks of these sizes give: a quarter of each, from the middle
--- of the first to the middle of the second (Vorbis I, section 4.3.8).
-abbrev pub overlap_len : ℕ → ℕ → ℕ
-overlap_len a b = a / 4 + b / 4
+pub use Rattle.model_synthesis.specs.Overlaps.{overlap_len}
 
 -- the frames between two blocks of which only the sizes are known: their numbers
 abbrev pub frame_numbers : ℕ → ℕ → List ℕ

@@ -1,4 +1,4 @@
-ghost use Rattle.model_line.specs.Laws.{CutsApart, GapsStay, FramesGo, StartsNeverFall, SpansAddUp, GapsAreMissing, SpansFit, SpansOfLinks, OneIndex, LineByHalves, LineByIndex};
+ghost use Rattle.model_line.specs.Laws.{CutsApart, GapsStay, FramesGo, StartsNeverFall, SpansAddUp, GapsAreMissing, SpansFit, SpansOfLinks, OneIndex, LineByHalves, LineByIndex, BlocksAreCounted};
 
 /// The cuts at the front and at the end of a link never meet, and end within it.
 pub fn cuts_apart()
@@ -55,4 +55,9 @@ pub fn line_by_halves()
 /// link, whatever blocks of its sizes its entries decode to.
 pub fn line_by_index()
     ensures { LineByIndex }
+{}
+
+/// An index counts as many blocks as packets of the film decode to one.
+pub fn blocks_are_counted()
+    ensures { BlocksAreCounted }
 {}

@@ -3,14 +3,13 @@ use Rattle.std.specs.Prelude.{◌≡◌, ℕ, ◌≤◌, ◌⊎◌, nat_lt, if�
 use Rattle.std.specs.Io.KnownBytes.{Appends, Keeps}
 use Rattle.vf_outside.specs.Told.{Told, MayGive, MayBeTooLong, AppendsPart}
 use Rattle.vf_outside.specs.Faults.{Rose}
+use Rattle.model_line.specs.declared.film.FilmFault.{FilmFault}
+use Rattle.model_line.specs.Acceptance.{FilmLink, film_of}
 use Rattle.model_player.specs.declared.limits.TheConstants.{FILM_LIMIT}
-use Rattle.model_player.specs.declared.link.LinkInfo.{LinkInfo}
-use Rattle.model_player.specs.declared.film.FilmFault.{FilmFault}
 use Rattle.model_player.specs.declared.status.Status.{Status}
 use Rattle.model_player.specs.declared.status.Status.TheVariants as statuses
 use Rattle.model_player.specs.Commands.{Command, info}
 use Rattle.model_player.specs.Texts.{usage_line, memory_line, cannot_read_line, too_long_line, fault_line, info_text}
-use Rattle.model_player.specs.Film.{film_info}
 
 -- ---- what waits for later commands
 
@@ -77,8 +76,8 @@ pub record MayHave (told : Told) (film : List ℕ) : Type 0 where
 abbrev pub OutputDue : Option Command → ShelfRun → List ℕ → Type 0
 OutputDue None shelf bytes = ⊥
 OutputDue (Some (info name)) shelf bytes =
-    (film : List ℕ) × (links : List LinkInfo) × MayHave (shelf.told name) film
-    × (film_info film ≡ Ok links) × (bytes ≡ info_text links)
+    (film : List ℕ) × (links : List FilmLink) × MayHave (shelf.told name) film
+    × (film_of film ≡ Ok links) × (bytes ≡ info_text links)
 
 -- A refusal with this status and this line is due, for this cause.
 abbrev pub RefusalDue : Option Command → ShelfRun → Status → List ℕ → Type 0
@@ -89,7 +88,7 @@ RefusalDue (Some (info name)) shelf statuses.TooLong line =
     MayBeTooLong (shelf.told name) FILM_LIMIT × (line ≡ too_long_line name FILM_LIMIT)
 RefusalDue (Some (info name)) shelf statuses.Film line =
     (film : List ℕ) × (fault : FilmFault) × MayHave (shelf.told name) film
-    × (film_info film ≡ Err fault) × (line ≡ fault_line fault)
+    × (film_of film ≡ Err fault) × (line ≡ fault_line fault)
 RefusalDue command shelf status line = ⊥
 
 -- A refusal: its line is on `notes`, and nothing on `out`.
@@ -127,13 +126,13 @@ pub data Duty : Type 0 where
   writes : List ℕ → Duty
   refuses : Status → List ℕ → Duty
 
-abbrev pub info_duty : Result (List LinkInfo) FilmFault → Duty
+abbrev pub info_duty : Result (List FilmLink) FilmFault → Duty
 info_duty (Ok links) = writes (info_text links)
 info_duty (Err fault) = refuses statuses.Film (fault_line fault)
 
 abbrev pub film_duty : List ℕ → List ℕ → Duty
 film_duty name film = if nat_lt FILM_LIMIT (length film)
-    then refuses statuses.TooLong (too_long_line name FILM_LIMIT) else info_duty (film_info film)
+    then refuses statuses.TooLong (too_long_line name FILM_LIMIT) else info_duty (film_of film)
 
 -- of words, and of the film's bytes where the words name a film
 abbrev pub duty_of : Option Command → List ℕ → Duty

@@ -2,12 +2,15 @@
 use Rattle.std.specs.Prelude.{ℕ, List, [], ◌∷◌, ◌++◌, codes}
 use Rattle.std.specs.Fmt.{decimal}
 use Rattle.std.specs.List.{flat_map, enumerate_from}
-use Rattle.model_setup.specs.declared.head.IdentFields.{IdentFields}
-use Rattle.model_setup.specs.HeaderPackets.{ident_word, comment_word}
-use Rattle.model_player.specs.declared.link.LinkCounts.{LinkCounts}
-use Rattle.model_player.specs.declared.link.LinkInfo.{LinkInfo}
-use Rattle.model_player.specs.declared.film.FilmFault.{FilmFault}
-use Rattle.model_player.specs.declared.film.FilmFault.TheVariants as faults
+use Rattle.model_line.specs.declared.film.LinkCounts.{LinkCounts}
+use Rattle.model_line.specs.declared.film.FilmFault.{FilmFault}
+use Rattle.model_line.specs.declared.item.LinkFacts.{LinkFacts}
+use Rattle.model_line.specs.Decode.{frame_count}
+use Rattle.model_line.specs.Origins.{line_origins}
+use Rattle.model_line.specs.Index.{facts_of}
+use Rattle.model_line.specs.FaultTexts.{fault_text}
+use Rattle.model_line.specs.Acceptance.{FilmLink}
+use Rattle.model_line.specs.PacketRows.{rows_of, sized_links}
 
 -- the line of a link of this number, without its end
 abbrev pub counts_text : ℕ → LinkCounts → List ℕ
@@ -24,23 +27,40 @@ abbrev pub line_end : List ℕ
 line_end = 10 ∷ []
 
 -- the line of its identification, without its end
-abbrev pub ident_text : ℕ → IdentFields → List ℕ
-ident_text number ident = codes "head "
+abbrev pub head_text : ℕ → LinkFacts → List ℕ
+head_text number facts = codes "head "
     ++ (decimal number
     ++ (codes " channels "
-    ++ (decimal ident.channels
+    ++ (decimal facts.channels
     ++ (codes " rate "
-    ++ (decimal ident.rate
-    ++ (codes " blocks " ++ (decimal ident.short ++ (codes " " ++ decimal ident.long))))))))
+    ++ (decimal facts.rate
+    ++ (codes " blocks " ++ (decimal facts.short ++ (codes " " ++ decimal facts.long))))))))
 
--- the two lines of a link, which has this number
-abbrev pub link_lines : ℕ × LinkInfo → List ℕ
-link_lines (number, info) =
-    counts_text number info.counts ++ (line_end ++ (ident_text number info.ident ++ line_end))
+-- the line of what the film's line has of it, without its end
+abbrev pub frames_text : ℕ → LinkFacts → List ℕ
+frames_text number facts = codes "line "
+    ++ (decimal number
+    ++ (codes " frames "
+    ++ (decimal facts.frames ++ (codes " gaps " ++ decimal facts.gaps))))
+
+-- the three lines of a link of this number, by its stream's numbers and its facts
+abbrev pub lines_by : ℕ → LinkCounts → LinkFacts → List ℕ
+lines_by number counts facts = counts_text number counts
+    ++ (line_end ++ (head_text number facts
+    ++ (line_end ++ (frames_text number facts ++ line_end))))
+
+-- the lines of a link, which has this number
+abbrev pub link_lines : ℕ × FilmLink → List ℕ
+link_lines (number, link) = lines_by number link.counts (facts_of number (rows_of link))
+
+-- the last line: how many frames the film's line has
+abbrev pub total_line : ℕ → List ℕ
+total_line total = codes "total " ++ (decimal total ++ line_end)
 
 -- what `info` writes of a film, by its links from number 0 on
-abbrev pub info_text : List LinkInfo → List ℕ
+abbrev pub info_text : List FilmLink → List ℕ
 info_text links = flat_map link_lines (enumerate_from 0 links)
+    ++ total_line (frame_count (line_origins (sized_links links)))
 
 -- words that are no command
 abbrev pub usage_line : List ℕ
@@ -58,21 +78,6 @@ cannot_read_line name = codes "cannot read " ++ (name ++ line_end)
 abbrev pub too_long_line : List ℕ → ℕ → List ℕ
 too_long_line name limit = codes "too long " ++ (name ++ (codes " " ++ (decimal limit ++ line_end)))
 
--- a film that is refused, without the line's end; want of memory is no cause
-abbrev pub fault_text : FilmFault → List ℕ
-fault_text faults.NoLink = codes "film no link"
-fault_text (faults.NoVorbis link) = codes "film link " ++ (decimal link ++ codes " no vorbis")
-fault_text (faults.HeadMissing link) =
-    codes "film link " ++ (decimal link ++ codes " headers missing")
-fault_text (faults.Ident link cause) =
-    codes "film link " ++ (decimal link ++ (codes " ident " ++ ident_word cause))
-fault_text (faults.Comment link cause) =
-    codes "film link " ++ (decimal link ++ (codes " comment " ++ comment_word cause))
-fault_text (faults.Channels link n) =
-    codes "film link " ++ (decimal link ++ (codes " channels " ++ decimal n))
-fault_text faults.TooManyLinks = codes "film too many links"
-fault_text faults.TooManyPackets = codes "film too many packets"
-fault_text faults.Memory = codes "memory"
-
+-- a film that is refused
 abbrev pub fault_line : FilmFault → List ℕ
 fault_line fault = fault_text fault ++ line_end

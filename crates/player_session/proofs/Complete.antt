@@ -5,7 +5,7 @@ use Rattle.vf_outside.specs.Told.{Told, MayBeTooLong}
 use Rattle.model_player.specs.declared.status.Status.{Status}
 use Rattle.model_player.specs.declared.status.Status.TheVariants as statuses
 use Rattle.model_player.specs.Commands.{Command, info}
-use Rattle.model_player.specs.Film.{film_info}
+use Rattle.model_line.specs.Acceptance.{film_of}
 use Rattle.model_player.specs.declared.limits.TheConstants.{FILM_LIMIT}
 use Rattle.model_player.specs.Outcome.{ShelfRun, SinkRun, MayHave, Gains, Outcome, Completes, Runs}
 
@@ -21,7 +21,7 @@ complete None shelf out notes statuses.Ok o = absurd o.1
 complete (Some (info name)) shelf out notes statuses.Ok o = λ film told no-out no-notes.
     let due = o.1 in
     let same = same_film (shelf.told name) film due.0 told.0 due.2 in
-    let looked : film_info film ≡ Ok due.1 = ap film_info (sym same) ∙ due.3 in
+    let looked : film_of film ≡ Ok due.1 = ap film_of (sym same) ∙ due.3 in
     let short : length film ≤ FILM_LIMIT = subst (λ (f : List ℕ). length f ≤ FILM_LIMIT) same due.2.short in
     inl (rw (le-ltb FILM_LIMIT (length film) short, looked) (refl, subst (λ (b : List ℕ). Gains out b) due.4 o.2, o.3))
 complete None shelf out notes statuses.Usage o = λ film told no-out no-notes. inl (refl, subst (λ (b : List ℕ). Gains notes b) o.1 o.2, o.3)
@@ -36,7 +36,7 @@ complete None shelf out notes statuses.Film o = absurd o.1
 complete (Some (info name)) shelf out notes statuses.Film o = λ film told no-out no-notes.
     let due = o.1 in
     let same = same_film (shelf.told name) film due.0 told.0 due.2 in
-    let looked : film_info film ≡ Err due.1 = ap film_info (sym same) ∙ due.3 in
+    let looked : film_of film ≡ Err due.1 = ap film_of (sym same) ∙ due.3 in
     let short : length film ≤ FILM_LIMIT = subst (λ (f : List ℕ). length f ≤ FILM_LIMIT) same due.2.short in
     inl (rw (le-ltb FILM_LIMIT (length film) short, looked) (refl, subst (λ (b : List ℕ). Gains notes b) due.4 o.2, o.3))
 complete command shelf out notes statuses.Output (inl broken) = λ film told no-out no-notes. absurd (no-out broken.2.0)

@@ -80,70 +80,141 @@ fn assert_ends(rt: &impl Abort, case: &str, run: &Run, status: Status, out: &[u8
     assert_eq!(rt; run.notes.written(), notes, "{case}");
 }
 
-const HEAD: &str = "head 0 channels 1 rate 8000 blocks 64 64\n";
+const HEAD: &str = "head 0 channels 1 rate 8000 blocks 64 64";
 
-/// Films of one link: what each shows, its parts, and what `info` counts.
-const ONE_LINK: [(&str, Parts, &str); 11] = [
-    ("base", &films::BASE, "pages 3 packets 5 lost 0"),
-    (
+/// A film of one link: what it shows, its parts, what `info` counts, and how many frames and gaps
+/// its line has.
+#[derive(Clone, Copy)]
+struct OneLink {
+    case: &'static str,
+    parts: Parts,
+    counts: &'static str,
+    frames: u64,
+    gaps: u64,
+}
+
+macro_rules! one_link {
+    ($case:expr, $parts:ident, $counts:expr, $frames:expr, $gaps:expr) => {
+        OneLink {
+            case: $case,
+            parts: &films::$parts,
+            counts: $counts,
+            frames: $frames,
+            gaps: $gaps,
+        }
+    };
+}
+
+/// Two neighbouring blocks of 64 give 32 frames, and a gap parts them.
+const ONE_LINK: [OneLink; 14] = [
+    one_link!("base", BASE, "pages 3 packets 5 lost 0", 32, 0),
+    one_link!(
         "an empty packet",
-        &films::EMPTY_PACKET,
+        EMPTY_PACKET,
         "pages 3 packets 6 lost 0",
+        32,
+        0
     ),
-    (
+    one_link!(
         "a page missing",
-        &films::PAGE_MISSING,
+        PAGE_MISSING,
         "pages 4 packets 7 lost 1",
+        64,
+        1
     ),
-    (
+    one_link!(
         "a body changed",
-        &films::BODY_CHANGED,
+        BODY_CHANGED,
         "pages 2 packets 3 lost 0",
+        0,
+        0
     ),
-    (
+    one_link!(
         "garbage between",
-        &films::GARBAGE_BETWEEN,
+        GARBAGE_BETWEEN,
         "pages 3 packets 5 lost 0",
+        32,
+        0
     ),
-    (
+    one_link!(
         "a page after the last",
-        &films::THIRD_PAGE_AGAIN,
+        THIRD_PAGE_AGAIN,
         "pages 3 packets 5 lost 0",
+        32,
+        0
     ),
-    (
+    one_link!(
         "a page twice",
-        &films::SECOND_PAGE_TWICE,
+        SECOND_PAGE_TWICE,
         "pages 4 packets 7 lost 1",
+        32,
+        1
     ),
-    (
+    one_link!(
         "a packet over three pages",
-        &films::THREE_PAGE_PACKET,
+        THREE_PAGE_PACKET,
         "pages 5 packets 4 lost 0",
+        0,
+        0
     ),
-    (
+    one_link!(
         "nothing to go on with",
-        &films::CONTINUES_NOTHING,
+        CONTINUES_NOTHING,
         "pages 4 packets 6 lost 1",
+        64,
+        1
     ),
-    (
+    one_link!(
         "a page without segments",
-        &films::EMPTY_PAGE,
+        EMPTY_PAGE,
         "pages 5 packets 4 lost 0",
+        0,
+        0
     ),
-    (
+    one_link!(
         "numbers that wrap",
-        &films::NUMBERS_WRAP,
+        NUMBERS_WRAP,
         "pages 3 packets 5 lost 0",
+        32,
+        0
+    ),
+    one_link!(
+        "cut at the end",
+        CUT_AT_THE_END,
+        "pages 3 packets 6 lost 0",
+        40,
+        0
+    ),
+    one_link!(
+        "begins late",
+        BEGINS_LATE,
+        "pages 4 packets 7 lost 0",
+        52,
+        0
+    ),
+    one_link!(
+        "no such mode",
+        NO_SUCH_MODE,
+        "pages 3 packets 8 lost 0",
+        64,
+        1
     ),
 ];
 
+/// The lines of a film of one link with these counts, frames and gaps.
+fn lines_of(alloc: Global, counts: &str, frames: u64, gaps: u64) -> Result<String, AllocError> {
+    format!(in alloc;
+        "link 0 serial 1 {counts}\n{HEAD}\nline 0 frames {frames} gaps {gaps}\ntotal {frames}\n"
+    )
+}
+
 #[test]
 fn films_of_one_link(rt: HostRuntime) -> Result<(), Fail> {
-    for (case, parts, counts) in ONE_LINK {
-        let film = joined(rt.alloc(), parts)?;
+    for row in ONE_LINK {
+        let film = joined(rt.alloc(), row.parts)?;
         let run = run_words(rt.alloc(), &["info", "f"], &film, NOTHING_FAILS)?;
-        let lines = format!(in rt.alloc(); "link 0 serial 1 {counts}\n{HEAD}")?;
-        assert_ends(&rt, case, &run, Status::Ok, lines.as_bytes(), b"");
+        let lines = lines_of(rt.alloc(), row.counts, row.frames, row.gaps)?;
+        assert_ends(&rt, row.case, &run, Status::Ok, lines.as_bytes(), b"");
     }
     Ok(())
 }
@@ -155,8 +226,11 @@ const MORE_LINKS: [(&str, Parts, &str); 2] = [
         &films::CHAIN,
         "link 0 serial 1 pages 3 packets 6 lost 0
 head 0 channels 1 rate 8000 blocks 64 64
+line 0 frames 64 gaps 0
 link 1 serial 2 pages 3 packets 6 lost 0
 head 1 channels 1 rate 16000 blocks 64 64
+line 1 frames 64 gaps 0
+total 128
 ",
     ),
     (
@@ -164,6 +238,8 @@ head 1 channels 1 rate 16000 blocks 64 64
         &films::TWO_STREAMS,
         "link 0 serial 1 pages 3 packets 5 lost 0
 head 0 channels 2 rate 8000 blocks 64 64
+line 0 frames 32 gaps 0
+total 32
 ",
     ),
 ];
@@ -200,6 +276,38 @@ fn the_most_links(rt: HostRuntime) -> Result<(), Fail> {
     Ok(())
 }
 
+/// A film with many packets: the headers, 16,383 pages of 255 packets, each of them behind a loss,
+/// and a last page behind one more loss. A page of 252 packets makes 2^22 entries.
+fn film_of_many(alloc: Global, last: &[u8]) -> Result<Vec<u8>, AllocError> {
+    let mut film = joined(alloc, &films::BASE[..2])?;
+    for _ in 0..16_383 {
+        film.extend_from_slice(&films::FULL_PAGE)?;
+    }
+    film.extend_from_slice(last)?;
+    Ok(film)
+}
+
+#[test]
+fn the_most_packets(rt: HostRuntime) -> Result<(), Fail> {
+    let most = film_of_many(rt.alloc(), &films::FULL_TO_THE_MOST)?;
+    let most = run_words(rt.alloc(), &["info", "f"], &most, NOTHING_FAILS)?;
+    let counts = "pages 16386 packets 4177920 lost 16384";
+    let lines = lines_of(rt.alloc(), counts, 0, 16384)?;
+    assert_ends(
+        &rt,
+        "2^22 entries",
+        &most,
+        Status::Ok,
+        lines.as_bytes(),
+        b"",
+    );
+    let many = film_of_many(rt.alloc(), &films::FULL_AND_ONE_MORE)?;
+    let many = run_words(rt.alloc(), &["info", "f"], &many, NOTHING_FAILS)?;
+    let line = b"film too many packets\n";
+    assert_ends(&rt, "2^22 + 1 entries", &many, Status::Film, b"", line);
+    Ok(())
+}
+
 /// Words that are refused with a film that is none: what each shows, the words, the status, and the
 /// text of the line.
 const REFUSED_WORDS: [(&str, &[&str], Status, &str); 5] = [
@@ -216,7 +324,7 @@ const REFUSED_WORDS: [(&str, &[&str], Status, &str); 5] = [
 ];
 
 /// Films that are refused: what each shows, its parts, and the text of the line.
-const REFUSED_FILMS: [(&str, Parts, &str); 8] = [
+const REFUSED_FILMS: [(&str, Parts, &str); 11] = [
     ("another codec", &films::NO_VORBIS, "film link 0 no vorbis"),
     (
         "no second page",
@@ -252,6 +360,21 @@ const REFUSED_FILMS: [(&str, Parts, &str); 8] = [
         "a version",
         &films::WRONG_VERSION,
         "film link 0 ident version",
+    ),
+    (
+        "a floor of type 0",
+        &films::FLOOR_OF_TYPE_0,
+        "film link 0 setup floor-zero 0",
+    ),
+    (
+        "a book that is too large",
+        &films::BOOK_TOO_LARGE,
+        "film link 0 setup book-limit 0",
+    ),
+    (
+        "comment and setup",
+        &films::WRONG_COMMENT_AND_SETUP,
+        "film link 0 comment framing",
     ),
 ];
 
@@ -428,7 +551,7 @@ fn nothing_fails_over_a_clean_shelf(rt: HostRuntime) -> Result<(), Fail> {
     let mut out = CleanSink::new(alloc);
     let mut notes = CleanSink::new(alloc);
     let status = player_alone(alloc, &words, &mut shelf, &mut out, &mut notes);
-    let lines = format!(in alloc; "link 0 serial 1 pages 3 packets 5 lost 0\n{HEAD}")?;
+    let lines = lines_of(alloc, "pages 3 packets 5 lost 0", 32, 0)?;
     assert_eq!(rt; status, Some(Status::Ok));
     assert_eq!(rt; out.written(), lines.as_bytes());
     assert_eq!(rt; notes.written(), b"".as_slice());

@@ -1,10 +1,10 @@
 use Rattle.std.proofs.Common.{ap, arith, length}
-use Rattle.film_index.proofs.FilmSteps.{facts_len}
+use Rattle.model_line.proofs.FactsAt.{length-facts}
 use Rattle.film_index.proofs.ListSteps.{all_within}
 use Rattle.film_index.proofs.film.Index.build.Goals as goal
 
 pub invariant_of-result : goal.invariant_of-result
-invariant_of-result c = (c.in_ok-facts.ensures.right.starts, c.in_ok-facts.ensures.right.total, omega (arith, ap length c.in_ok-facts.ensures.facts, facts_len 0 c.deref-2.result.now, ap length c.deref-2.ensures.value, c.requires.count))
+invariant_of-result c = (c.in_ok-facts.ensures.right.starts, c.in_ok-facts.ensures.right.total, omega (arith, ap length c.in_ok-facts.ensures.facts, length-facts 0 c.deref-2.result.now, ap length c.deref-2.ensures.value, c.requires.count))
 
 pub returns : goal.returns
 returns c = record {

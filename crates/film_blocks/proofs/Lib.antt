@@ -1,0 +1,12 @@
+pub mod Counts
+pub mod FirstThree
+pub mod LinkSteps
+pub mod OnePiece
+pub mod HeldPieces
+pub mod RowSteps
+pub mod EndSteps
+pub mod ReadSteps
+pub mod HeldSetup
+pub mod BlockLinks
+pub mod HeldLinks
+pub mod HeadFacts

@@ -1,0 +1,101 @@
+-- What reading links gives, one link at a time.
+use Rattle.std.proofs.Common.{◌≡◌, ℕ, ◌+◌, ◌^◌, ◌≤◌, List, [], ◌∷◌, ◌++◌, length, map, drop, refl, ap, sym, ◌∙◌, arith, length-drop}
+use Rattle.std.proofs.lemmas.List.{length-map, map-append}
+use Rattle.std.proofs.Math.Nat.{pow-le-pow_right}
+use Rattle.std.specs.List.{All}
+use Rattle.std.proofs.lemmas.List.Elements.{All-push}
+use Rattle.std.proofs.lemmas.List.Sums.{sum_by-append, sum_by-cons}
+use Rattle.ogg_packets.specs.declared.entry.Entry.{Entry}
+use Rattle.ogg_packets.specs.Entries.{item_of, items_of, EntryLiesBefore}
+use Rattle.model_setup.specs.declared.head.IdentFields.{IdentFields}
+use Rattle.model_setup.specs.HeaderPackets.{IsBlockSize, IsPlayable}
+use Rattle.model_setup.specs.SetupPacket.{SetupFields}
+use Rattle.model_line.specs.declared.row.TheConstants.{LARGEST_BLOCK}
+use Rattle.model_line.specs.declared.film.TheConstants.{MOST_CHANNELS}
+use Rattle.model_ogg.specs.Entries.{StreamItem}
+use Rattle.model_line.specs.declared.row.LinkRows.{LinkRows}
+use Rattle.model_line.specs.Acceptance.{FilmLink, link_with}
+use Rattle.model_line.specs.PacketRows.{row_of, block_flags, rows_by, rows_of}
+use Rattle.model_line.specs.LinkTests.{headers_of}
+use Rattle.model_line.specs.Origins.{entries_of}
+use Rattle.model_line.specs.Index.{Indexed, Indexes, all_behind}
+use Rattle.model_line.proofs.FactsAt.{length-facts}
+use Rattle.film_index.specs.Bounds.{FitsLink, FitsIndex, rows_in}
+use Rattle.film_blocks.specs.declared.held.HeldLink.{HeldLink}
+use Rattle.film_blocks.specs.Held.{link_in, links_in, IsHeld}
+use Rattle.film_blocks.specs.Reads.{IsRead, AreRead}
+use Rattle.film_blocks.specs.Ends.{ends_from}
+use Rattle.film_blocks.specs.Films.{IsFilm}
+use Rattle.film_blocks.proofs.HeldPieces.{pieces_lie}
+use Rattle.film_blocks.proofs.HeadFacts.{Accepted}
+
+pub read_one : (bytes : List ℕ) (held : List HeldLink) (rows : List LinkRows) (h : HeldLink) (r : LinkRows) → AreRead bytes held rows → IsRead bytes h r → AreRead bytes (held ++ h ∷ []) (rows ++ r ∷ [])
+read_one bytes held rows h r all one = record {
+  held_right = All-push (IsHeld bytes) held h all.held_right one.held_right;
+  rows_right = rw (all.rows_right, one.rows_right) (sym (ap (map rows_of) (map-append (link_in bytes) held (h ∷ [])) ∙ map-append rows_of (links_in bytes held) (link_in bytes h ∷ [])));
+  fits = All-push FitsLink rows r all.fits one.fits;
+}
+
+pub links_in-push : (bytes : List ℕ) (held now : List HeldLink) (h : HeldLink) → now ≡ held ++ h ∷ [] → links_in bytes now ≡ links_in bytes held ++ link_in bytes h ∷ []
+links_in-push bytes held now h is = ap (links_in bytes) is ∙ map-append (link_in bytes) held (h ∷ [])
+
+rows_len : (link : FilmLink) → length (rows_of link).rows ≡ length link.entries
+unfolding rows_by
+rows_len link = length-map link.entries (row_of (block_flags link.setup))
+
+entries_len : (bytes : List ℕ) (h : HeldLink) → length (link_in bytes h).entries ≤ length h.entries.items
+unfolding link_with
+entries_len bytes h = omega (arith, length-drop 3 (items_of bytes h.entries.items), length-map h.entries.items (item_of bytes))
+
+-- a link has no more rows than entries
+pub rows_few : (bytes : List ℕ) (h : HeldLink) (r : LinkRows) → IsRead bytes h r → length r.rows ≤ length h.entries.items
+rows_few bytes h r one = omega (arith, ap (λ (x : LinkRows). length x.rows) one.rows_right, rows_len (link_in bytes h), entries_len bytes h)
+
+pub rows_in-push : (rows : List LinkRows) (r : LinkRows) → rows_in (rows ++ r ∷ []) ≡ rows_in rows + length r.rows
+rows_in-push rows r = sum_by-append (λ (x : LinkRows). length x.rows) rows (r ∷ []) ∙ omega (arith, sum_by-cons (λ (x : LinkRows). length x.rows) r [])
+
+-- ---- one link
+
+block_small : (size : ℕ) → IsBlockSize size → size ≤ LARGEST_BLOCK
+block_small size h =
+    let most : 2 ^ h.exponent ≤ 2 ^ 13 = pow-le-pow_right {n = 2} (omega arith) h.at_most_8192 in
+    omega (arith, most, h.is_power)
+
+-- a link is read right, where its headers are accepted and its rows are theirs
+pub link_read : (bytes : List ℕ) (h : HeldLink) (rows : LinkRows) (ident : IdentFields) (setup : SetupFields) → All (EntryLiesBefore (length bytes)) h.entries.items → h.channels ≡ ident.channels
+    → Accepted (headers_of (items_of bytes h.entries.items)) ident setup → IsPlayable ident → ident.channels ≤ MOST_CHANNELS → rows ≡ rows_by ident setup (drop 3 (items_of bytes h.entries.items)) → IsRead bytes h rows
+unfolding link_with rows_by
+link_read bytes h rows ident setup lies channels said playable few rows-are =
+    let entries = drop 3 (items_of bytes h.entries.items) in
+    let short = block_small ident.short playable.short in
+    let long = block_small ident.long playable.long in
+    record {
+      held_right = record {
+        lies = pieces_lie (length bytes) h.entries.items lies;
+        channels = channels ∙ ap (λ (i : IdentFields). i.channels) (sym said.ident_is);
+        some = omega (arith, channels, playable.has_channels);
+        few = omega (arith, channels, few);
+        setup = rw channels said.right;
+      };
+      rows_right = rows-are ∙ ap (λ (i : IdentFields). rows_by i setup entries) (sym said.ident_is) ∙ ap (λ (s : SetupFields). rows_by (link_in bytes h).ident s entries) (sym said.setup_is);
+      fits = record {
+        short = omega (arith, short, ap (λ (r : LinkRows). r.short) rows-are);
+        long = omega (arith, long, ap (λ (r : LinkRows). r.long) rows-are);
+      };
+    }
+
+-- ---- a film
+
+-- what is kept of a film is right, where its links are read right and its index is that of their
+-- rows
+pub film_right : (bytes : List ℕ) (held : List HeldLink) (rows : List LinkRows) (ends : List ℕ) (index : Indexed) → AreRead bytes held rows → FitsIndex rows → ends ≡ ends_from 0 (map entries_of rows) → Indexes rows index
+    → IsFilm bytes held ends index
+film_right bytes held rows ends index read fits ends-are h =
+    let len : length rows ≡ length held = ap length read.rows_right ∙ length-map (links_in bytes held) rows_of ∙ length-map held (link_in bytes) in
+    record {
+      held_right = read.held_right;
+      few = omega (arith, len, fits.count);
+      links = ap length h.facts ∙ length-facts 0 rows ∙ len;
+      ends_right = ends-are ∙ ap (λ (rs : List LinkRows). ends_from 0 (map entries_of rs)) read.rows_right;
+      blocks = h.count ∙ ap (λ (rs : List LinkRows). all_behind 0 (map entries_of rs)) read.rows_right;
+    }

@@ -1,0 +1,19 @@
+-- The rows of entries, one at a time.
+use Rattle.std.proofs.Common.{◌≡◌, ℕ, ◌+◌, ◌<◌, ◌≤◌, Bool, List, [], ◌∷◌, ◌++◌, length, map, drop, get_or, sym, ap, ◌∙◌, append_assoc}
+use Rattle.std.proofs.lemmas.List.{at_drop_more, drop_all, append-nil}
+use Rattle.ogg_packets.specs.declared.entry.Entry.{Entry}
+use Rattle.ogg_packets.specs.Entries.{item_of, items_of}
+use Rattle.model_line.specs.declared.row.Row.{Row}
+use Rattle.model_line.specs.PacketRows.{row_of}
+
+abbrev pub rows_in_order : List ℕ → List Bool → List Entry → List Row
+rows_in_order bytes flags es = map (row_of flags) (items_of bytes es)
+
+pub rows_go_on : (bytes : List ℕ) (flags : List Bool) (es : List Entry) (i : ℕ) (d : Entry) (rows now total : List Row) (row : Row) → i < length es → row ≡ row_of flags (item_of bytes (get_or es i d)) → now ≡ rows ++ row ∷ []
+    → rows ++ rows_in_order bytes flags (drop i es) ≡ total → now ++ rows_in_order bytes flags (drop (i + 1) es) ≡ total
+rows_go_on bytes flags es i d rows now total row lt row-is now-is h =
+    let more = at_drop_more (rows_in_order bytes flags) es i d lt in
+    rw (now-is, row-is) (append_assoc rows (row_of flags (item_of bytes (get_or es i d)) ∷ []) (rows_in_order bytes flags (drop (i + 1) es)) ∙ ap (λ (x : List Row). rows ++ x) (sym more) ∙ h)
+
+pub rows_end : (bytes : List ℕ) (flags : List Bool) (es : List Entry) (i : ℕ) (rows total : List Row) → length es ≤ i → rows ++ rows_in_order bytes flags (drop i es) ≡ total → rows ≡ total
+rows_end bytes flags es i rows total le h = let none = rw (drop_all i es le) at h in sym (append-nil rows) ∙ none

@@ -1,0 +1,43 @@
+-- What is kept of a link stands for.
+use Rattle.std.specs.Prelude.{◌≡◌, ℕ, ◌≤◌, Bool, true, false, List, [], length, map, All, is_ok}
+use Rattle.std.specs.Option.{option_map_or}
+use Rattle.std.specs.List.{flat_map}
+use Rattle.ogg_packets.specs.declared.entry.Entry.{Entry}
+use Rattle.ogg_packets.specs.declared.entry.Entry.TheVariants.{Packet, Lost}
+use Rattle.ogg_packets.specs.declared.pieces.Piece.{Piece}
+use Rattle.ogg_packets.specs.Pieces.{LiesBefore}
+use Rattle.ogg_packets.specs.Entries.{items_of}
+use Rattle.model_ogg.specs.Entries.{StreamItem}
+use Rattle.model_setup.specs.SetupPacket.{setup_of}
+use Rattle.model_line.specs.declared.film.TheConstants.{MOST_CHANNELS}
+use Rattle.model_line.specs.LinkTests.{Headers, headers_of}
+use Rattle.model_line.specs.Acceptance.{FilmLink, link_with}
+use Rattle.film_blocks.specs.declared.held.HeldLink.{HeldLink}
+
+-- the link of a film of these bytes
+abbrev pub link_in : List ℕ → HeldLink → FilmLink
+link_in bytes held = link_with held.counts (items_of bytes held.entries.items)
+
+abbrev pub links_in : List ℕ → List HeldLink → List FilmLink
+links_in bytes held = map (link_in bytes) held
+
+-- the pieces of an entry, and of entries
+abbrev pub pieces_of : Entry → List Piece
+pieces_of (Packet pieces mark) = pieces
+pieces_of Lost = []
+
+abbrev pub all_pieces : List Entry → List Piece
+all_pieces entries = flat_map pieces_of entries
+
+-- the third header of these entries is a setup of so many channels
+abbrev pub has_setup : ℕ → List StreamItem → Bool
+has_setup channels items =
+    option_map_or (λ (h : Headers). is_ok (setup_of channels h.setup)) (headers_of items) false
+
+-- a link is held right: its pieces lie within the bytes, and its setup can be read again
+pub record IsHeld (bytes : List ℕ) (held : HeldLink) : Type 0 where
+  pub lies : All (LiesBefore (length bytes)) (all_pieces held.entries.items)
+  pub channels : held.channels ≡ (link_in bytes held).ident.channels
+  pub some : 1 ≤ held.channels
+  pub few : held.channels ≤ MOST_CHANNELS
+  pub setup : has_setup held.channels (items_of bytes held.entries.items) ≡ true

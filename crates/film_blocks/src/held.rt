@@ -1,0 +1,34 @@
+ghost use Rattle.std.specs.Prelude.{◌≡◌, IfOk};
+ghost use Rattle.film_blocks.specs.Held.{link_in, IsHeld};
+
+use crate::headers::{after, packet_bytes};
+use model_line::LinkCounts;
+use model_setup::SetupFault;
+use ogg_packets::Entry;
+use sequence::NoMemory;
+use setup_header::Setup;
+use std::alloc::Global;
+
+/// What is kept of a link: the numbers of its stream, how many channels it has, and its entries,
+/// the packets among them as pieces of the file.
+#[derive(Drop)]
+pub struct HeldLink {
+    pub counts: LinkCounts,
+    pub channels: u8,
+    pub entries: Vec<Entry>,
+}
+
+/// Reads the setup of a link again.
+pub fn read_setup(alloc: Global, bytes: &[u8], link: &HeldLink) -> Result<Setup, NoMemory>
+    requires { IsHeld bytes.now link.now }
+    ensures { IfOk result (λ setup. (link_in bytes.now link.now).setup ≡ setup) }
+{
+    let Some(packet) = packet_bytes(alloc, bytes, after(&link.entries, 2))? else {
+        unreachable!()
+    };
+    match Setup::read(alloc, link.channels, &packet) {
+        Ok(setup) => Ok(setup),
+        Err(SetupFault::Bad { .. }) => unreachable!(),
+        Err(SetupFault::Memory) => Err(NoMemory),
+    }
+}

@@ -1,7 +1,0 @@
-use Rattle.std.proofs.Common.{◌≡◌, ◌++◌, drop, string_bytes}
-use Rattle.model_player.specs.Texts.{info_text}
-use Rattle.player_session.proofs.Lines.{lines_from}
-use Rattle.player_session.proofs.texts.info_text.Given as goal
-
-abbrev pub invariant-loop-number : goal.invariant-loop-number
-invariant-loop-number l = string_bytes l.text ++ lines_from l.number (drop l.number l.links) ≡ info_text l.links
