@@ -1,5 +1,5 @@
 #!/usr/bin/env bash
-# Compares what `info` counts in real films with what `oggz-info` and `ogginfo` say of them.
+# Compares what `info` counts in real films with what `oggz-info`, `ogginfo` and `oggdec` say of them.
 #
 #     tools/check_real.sh [--small]
 #
@@ -21,7 +21,7 @@ case ${1:-} in
         ;;
 esac
 
-skip_without oggenc ogginfo sox oggz-info oggz-merge
+skip_without oggenc ogginfo oggdec sox oggz-info oggz-merge
 player=$(program)
 
 work=$(mktemp -d)
@@ -51,14 +51,34 @@ info() {
     said=$("$player" info "$work/$1.ogg" 2>"$work/notes") || status=$?
 }
 
-# expected FILE LINK SERIAL CHANNELS RATE: the two lines that are wanted of a link, by the pages and packets that oggz-info
-# tells of the Vorbis stream of a file; only the sizes of its blocks are left open
+# frames FILE CHANNELS: how many frames oggdec decodes of a file of one link
+frames() {
+    echo $(($(oggdec -Q -R -o - "$work/$1.ogg" | wc -c) / (2 * $2)))
+}
+
+# expected FILE LINK SERIAL CHANNELS RATE: the three lines that are wanted of a link, by the pages and packets that oggz-info
+# tells of the Vorbis stream of a file, and the frames that oggdec decodes of it; only the sizes of its blocks are left open
 expected() {
     local packets pages
     read -r packets pages < <(oggz-info "$work/$1.ogg" 2>/dev/null |
         sed -n '/^Vorbis/,$ s/^\t\([0-9]*\) packets in \([0-9]*\) pages.*/\1 \2/p' | head -n 1) || true
     echo "link $2 serial $3 pages $pages packets $packets lost 0"
     echo "head $2 channels $4 rate $5 blocks [0-9]+ [0-9]+"
+    echo "line $2 frames $(frames "$1" "$4") gaps 0"
+}
+
+# total LINES: these lines of links, and the last line, which has the sum of their frames
+total() {
+    local sum=0 count
+    for count in $(sed -n 's/^line [0-9]* frames \([0-9]*\) .*/\1/p' <<<"$1"); do sum=$((sum + count)); done
+    echo "$1"
+    echo "total $sum"
+}
+
+# damaged LINES: the same lines of a film that is cut short: the packet that was open at its end is lost, and its frames are
+# not those that oggdec gives
+damaged() {
+    sed -E 's/lost 0/lost [01]/; s/frames [0-9]+ gaps 0/frames [0-9]+ gaps [01]/; s/^total .*/total [0-9]+/' <<<"$1"
 }
 
 # heard NAME SERIAL CHANNELS RATE: ogginfo tells of such a Vorbis stream
@@ -69,23 +89,25 @@ heard() {
         grep -q "^Channels: $3\$" <<<"$told" && grep -q "^Rate: $4\$" <<<"$told"
 }
 
-# says NAME LINES [cut]: the program says these lines of a film. One that is cut short may have lost the packet that was
-# open at its end.
+# says NAME LINES: the program says these lines of a film
 says() {
     info "$1"
     if [ "$status" != 0 ]; then
         fail "$1" "status $status, $(head -c 200 "$work/notes")"
-    elif [[ $said =~ ^$2$ ]] || { [ -n "${3:-}" ] && [[ $said =~ ^${2/lost 0/lost 1}$ ]]; }; then
+    elif [[ $said =~ ^$2$ ]]; then
         pass "$1: ${said//$'\n'/; }"
     else
         fail "$1" "said '$said', expected '$2'"
     fi
 }
 
-# counts NAME SERIAL CHANNELS RATE [cut]: the program and the other two agree on a film of one link
+# counts NAME SERIAL CHANNELS RATE [cut]: the program and the others agree on a film of one link
 counts() {
+    local lines
     if heard "$1" "$2" "$3" "$4"; then
-        says "$1" "$(expected "$1" 0 "$2" "$3" "$4")" "${5:-}"
+        lines=$(total "$(expected "$1" 0 "$2" "$3" "$4")")
+        if [ -n "${5:-}" ]; then lines=$(damaged "$lines"); fi
+        says "$1" "$lines"
     else
         fail "$1" "ogginfo tells of another stream"
     fi
@@ -133,20 +155,20 @@ if [ -z "$small" ]; then
     make six_channels 2147483648 6 48000 10 6
     counts six_channels 2147483648 6 48000
     cat "$work/low_rate.ogg" "$work/stereo.ogg" "$work/six_channels.ogg" >"$work/three_links.ogg"
-    says three_links "$(expected low_rate 0 8 1 8000)
+    says three_links "$(total "$(expected low_rate 0 8 1 8000)
 $(expected stereo 1 9 2 48000)
-$(expected six_channels 2 2147483648 6 48000)"
+$(expected six_channels 2 2147483648 6 48000)")"
     # oggz-info miscounts the packets of a multiplexed film, so the stream's own film is asked
     multiplexed
     if heard multiplexed 1 1 44100; then
-        says multiplexed "$(expected mono 0 1 1 44100)"
+        says multiplexed "$(total "$(expected mono 0 1 1 44100)")"
     else
         fail multiplexed "ogginfo tells of another stream"
     fi
 fi
 cat "$work/mono.ogg" "$work/second.ogg" >"$work/chain.ogg"
-says chain "$(expected mono 0 1 1 44100)
-$(expected second 1 4000000000 2 44100)"
+says chain "$(total "$(expected mono 0 1 1 44100)
+$(expected second 1 4000000000 2 44100)")"
 
 echo "$passed passed, $failed failed"
 [ "$failed" = 0 ]

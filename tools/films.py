@@ -1,7 +1,8 @@
 #!/usr/bin/env python3
 """The films of the tests, built page by page (RFC 3533, section 6).
 
-    tools/films.py rust        the films of player_session's tests: its file src/tests/films.rt
+    tools/films.py rust [NAME..]    the films of tests, all of them or these: player_session's file src/tests/films.rt has
+                                    all, film_blocks' has those that its first line names
     tools/films.py antt NAME.. the bytes of films as a list for an example
     tools/films.py file NAME PATH   one film as a file
 """
@@ -59,6 +60,27 @@ SETUP = bytes.fromhex(
 assert len(ident()) == 30 and len(COMMENT) == 16 and len(SETUP) == 61
 
 
+def bits_of(packet):
+    """The bits of a packet in their order, written as 0 and 1."""
+    return "".join(f"{b:08b}"[::-1] for b in packet)
+
+
+def packet_of(bits):
+    """The packet of these bits, with zeros behind them up to a whole byte."""
+    whole = bits + "0" * (-len(bits) % 8)
+    return bytes(int(whole[i : i + 8][::-1], 2) for i in range(0, len(whole), 8))
+
+
+# The setup ends with its modes, from bit 434 on: their count less one, of 6 bits, 41 bits for each, and the framing bit.
+MODES_PLACE = 434
+THREE_MODES = packet_of(bits_of(SETUP)[:MODES_PLACE] + "010000" + 3 * 41 * "0" + "1")
+# Its first floor's type stands in 16 bits from bit 237 on, behind a count of 6 bits.
+FLOOR_TYPE_PLACE = 237
+FLOOR_ZERO = packet_of(bits_of(SETUP)[:FLOOR_TYPE_PLACE] + 16 * "0" + bits_of(SETUP)[FLOOR_TYPE_PLACE + 16 :])
+# A book of 2^24 - 1 entries, and nothing behind its count.
+BOOK_LIMIT = b"\x05vorbis\0" + b"BCV" + b"\1\0" + b"\xff\xff\xff"
+
+
 def heads(serial=1, rate=8000):
     return page(FIRST, 0, [ident(rate=rate)], serial=serial) + page(0, 1, [COMMENT, SETUP], serial=serial)
 
@@ -70,6 +92,7 @@ def base(*packets, granule=32, serial=1, rate=8000):
 F = base(S, S)
 WRONG_COMMENT = COMMENT[:-1] + b"\0"
 LONG = bytes(255)
+MODES_S = bytes.fromhex("080000")
 
 
 def changed(page):
@@ -110,6 +133,21 @@ PARTS = {
     "WRAP_IDENT": page(FIRST, 2**32 - 2, [ident()]),
     "WRAP_SETUP": page(0, 2**32 - 1, [COMMENT, SETUP]),
     "WRAP_LAST": page(LAST, 0, [S, S], granule=32),
+    "CUT_LAST": page(LAST, 2, [S, S, S], granule=40),
+    "LATE_THIRD": page(0, 2, [S, S, S], granule=20),
+    "LATE_LAST": page(LAST, 3, [S], granule=52),
+    "MODES_SETUP": page(0, 1, [COMMENT, THREE_MODES]),
+    "MODES_LAST": page(LAST, 2, [MODES_S, MODES_S, b"\6", MODES_S, MODES_S], granule=64),
+    "FLOOR_SETUP": page(0, 1, [COMMENT, FLOOR_ZERO]),
+    "BOOK_SETUP": page(0, 1, [COMMENT, BOOK_LIMIT]),
+    "WRONG_BOTH": page(0, 1, [WRONG_COMMENT, FLOOR_ZERO]),
+}
+
+# Pages of packets without bytes, for films with many: 255 on a page, 252 and 253.
+MANY = {
+    "FULL_PAGE": page(0, 5, 255 * [b""], granule=NONE),
+    "FULL_TO_THE_MOST": page(0, 7, 252 * [b""], granule=NONE),
+    "FULL_AND_ONE_MORE": page(0, 7, 253 * [b""], granule=NONE),
 }
 
 # The films of the tests: what each is, and its parts.
@@ -146,6 +184,16 @@ FILMS = {
     "TWO_STREAMS": ("Another codec's stream, multiplexed with a Vorbis stream of two channels.",
                     "OPUS_FIFTH STEREO_IDENT OPUS_TAGS SETUP TWO_LAST"),
     "NUMBERS_WRAP": ("Pages numbered 2^32 - 2, 2^32 - 1 and 0.", "WRAP_IDENT WRAP_SETUP WRAP_LAST"),
+    "CUT_AT_THE_END": ("Three audio packets on a last page that says fewer frames than they give.",
+                       "IDENT SETUP CUT_LAST"),
+    "BEGINS_LATE": ("A first audio page that says fewer frames than its packets give.",
+                    "IDENT SETUP LATE_THIRD LATE_LAST"),
+    "NO_SUCH_MODE": ("A setup of three modes, and a packet that names a fourth between four others.",
+                     "IDENT MODES_SETUP MODES_LAST"),
+    "FLOOR_OF_TYPE_0": ("A setup whose floor is of type 0.", "IDENT FLOOR_SETUP TWO_LAST"),
+    "BOOK_TOO_LARGE": ("A setup with a book of 2^24 - 1 entries.", "IDENT BOOK_SETUP TWO_LAST"),
+    "WRONG_COMMENT_AND_SETUP": ("A comment without its framing bit, and a setup whose floor is of type 0.",
+                                "IDENT WRONG_BOTH TWO_LAST"),
 }
 
 # Small films for examples by computation.
@@ -173,16 +221,21 @@ def rows(head, items, columns, end):
     return lines + ["]" + end]
 
 
-def rust():
-    """The test file of the films, as it stands."""
-    lines = ["//! The films of the tests, as lists of their parts. `tools/films.py rust` writes this file."]
-    for name, part in PARTS.items():
+def rust(names):
+    """A test file of films, as it stands."""
+    films = {name: FILMS[name] for name in names} if names else FILMS
+    used = {part for _, parts in films.values() for part in parts.split()}
+    parts = {name: part for name, part in PARTS.items() if name in used} if names else PARTS | MANY
+    command = " ".join(["tools/films.py rust", *names])
+    lines = ["//! The films of the tests, as lists of their parts. This file is written by", f"//! `{command}`."]
+    for name, part in parts.items():
         lines.append("")
+        kind = "pub const" if name in MANY else "const"
         if part == LONG:
-            lines.append(f"const {name}: [u8; {len(part)}] = [0; {len(part)}];")
+            lines.append(f"{kind} {name}: [u8; {len(part)}] = [0; {len(part)}];")
         else:
-            lines += rows(f"const {name}: [u8; {len(part)}] = ", [f"0x{b:02x}" for b in part], 16, ";")
-    for name, (text, parts) in FILMS.items():
+            lines += rows(f"{kind} {name}: [u8; {len(part)}] = ", [f"0x{b:02x}" for b in part], 16, ";")
+    for name, (text, parts) in films.items():
         items = ["&" + part for part in parts.split()]
         lines += ["", f"/// {text}"]
         lines += rows(f"pub const {name}: [&[u8]; {len(items)}] = ", items, 1, ";")
@@ -196,7 +249,7 @@ def antt(names):
 
 if __name__ == "__main__":
     if sys.argv[1:2] == ["rust"]:
-        rust()
+        rust(sys.argv[2:])
     elif sys.argv[1:2] == ["antt"]:
         antt(sys.argv[2:])
     elif sys.argv[1:2] == ["file"] and len(sys.argv) == 4:
