@@ -53,38 +53,51 @@ fn ordered(alloc: Global) -> Result<Vec<u8>, AllocError> {
     Ok(bytes)
 }
 
-fn main(rt: HostRuntime) -> io::Result<()> {
-    let alloc = rt.alloc();
-    let names = ["in order", "each by itself"];
-    let books = [ordered(alloc)?, unordered(alloc)?];
-    for (name, bytes) in names.iter().zip(books.iter()) {
-        let mut budget = Budget {
-            entries: 1 << 20,
-            multiplicands: 0,
-        };
-        let begin = Instant::now(&rt)?;
-        let book = Book::read(alloc, &mut Bits::new(bytes), &mut budget);
-        let spent = begin.elapsed(&rt)?.as_nanos();
-        println!(rt; "a book of 2^20 entries, {name}: {spent} ns")?;
-        let Ok(book) = book else {
-            println!(rt; "it is refused")?;
-            continue;
-        };
-        let packet = [0x9du8; 125];
-        let mut sum: u32 = 0;
-        let begin = Instant::now(&rt)?;
-        for _ in 0..ROUNDS {
-            let mut bits = Bits::new(&packet);
-            for _ in 0..READ {
-                if let Some(entry) = book.entry(&mut bits) {
-                    sum = sum.wrapping_add(entry);
-                }
-            }
+/// Reads entries of a packet, as many as it has.
+fn read_entries(book: &Book, packet: &[u8]) -> u32 {
+    let mut bits = Bits::new(packet);
+    let mut sum: u32 = 0;
+    for _ in 0..READ {
+        if let Some(entry) = book.entry(&mut bits) {
+            sum = sum.wrapping_add(entry);
         }
-        let spent = begin.elapsed(&rt)?.as_nanos();
-        println!(rt; "{READ} entries of it, {ROUNDS} times: {spent} ns (sum {sum})")?;
     }
-    Ok(())
+    sum
+}
+
+/// Times reading entries again and again.
+fn time_entries(rt: &HostRuntime, book: &Book) -> io::Result<()> {
+    let packet = [0x9du8; 125];
+    let mut sum: u32 = 0;
+    let begin = Instant::now(rt)?;
+    for _ in 0..ROUNDS {
+        sum = sum.wrapping_add(read_entries(book, &packet));
+    }
+    let spent = begin.elapsed(rt)?.as_nanos();
+    println!(rt; "{READ} entries of it, {ROUNDS} times: {spent} ns (sum {sum})")
+}
+
+/// Times reading a book.
+fn time_book(rt: &HostRuntime, name: &str, bytes: &[u8]) -> io::Result<()> {
+    let mut budget = Budget {
+        entries: 1 << 20,
+        multiplicands: 0,
+    };
+    let begin = Instant::now(rt)?;
+    let read = Book::read(rt.alloc(), &mut Bits::new(bytes), &mut budget);
+    let spent = begin.elapsed(rt)?.as_nanos();
+    println!(rt; "a book of 2^20 entries, {name}: {spent} ns")?;
+    match read {
+        Ok(book) => time_entries(rt, &book),
+        Err(_) => println!(rt; "it is refused, in 0 ns"),
+    }
+}
+
+fn main(rt: HostRuntime) -> io::Result<()> {
+    let bytes = ordered(rt.alloc())?;
+    time_book(&rt, "in order", &bytes)?;
+    let bytes = unordered(rt.alloc())?;
+    time_book(&rt, "each by itself", &bytes)
 }
 RATTLE
 print_times

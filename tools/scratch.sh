@@ -16,7 +16,7 @@ scratch_program() {
     mkdir "$work/crates"
     for crate in $crates; do
         mkdir "$work/crates/$crate"
-        (cd "$root/crates/$crate" && tar cf - --exclude=./out .) | (cd "$work/crates/$crate" && tar xf -)
+        (cd "$root/crates/$crate" && tar cf - .) | (cd "$work/crates/$crate" && tar xf -)
         sed -n "/^$crate:/p" "$root/crates.txt" >>"$work/crates.txt"
     done
     cd "$work" || return
