@@ -1,8 +1,8 @@
 #!/usr/bin/env python3
 """The films of the tests, built page by page (RFC 3533, section 6).
 
-    tools/films.py rust [NAME..]    the films of tests, all of them or these: player_session's file src/tests/films.rt has
-                                    all, film_blocks' has those that its first line names
+    tools/films.py rust [NAME..]    the films of tests, all of them or these: player_tests' file src/runs/films.rt has all,
+                                    film_blocks' src/tests/films.rt has those that its first line names
     tools/films.py antt NAME.. the bytes of films as a list for an example
     tools/films.py file NAME PATH   one film as a file
 """
@@ -143,6 +143,16 @@ PARTS = {
     "WRONG_BOTH": page(0, 1, [WRONG_COMMENT, FLOOR_ZERO]),
 }
 
+# Parts of the film of blocks. Under a setup of three modes the sound of a packet begins two bits later; one such packet
+# goes on over two pages, with zeros that nothing reads.
+LONG_SOUND = MODES_S + bytes(300)
+BLOCK_PARTS = {
+    "SOUND_AND_SKIP": page(LAST, 2, [S, b"\1", Q, S], granule=64),
+    "SECOND_MODES": page(0, 1, [COMMENT, THREE_MODES], serial=2),
+    "SOUND_BEGINS": page(0, 2, [b"\6", LONG_SOUND[:255]], granule=NONE, serial=2, open_end=True),
+    "SOUND_ENDS": page(CONTINUED | LAST, 3, [LONG_SOUND[255:], Q], granule=32, serial=2),
+}
+
 # Pages of packets without bytes, for films with many: 255 on a page, 252 and 253.
 MANY = {
     "FULL_PAGE": page(0, 5, 255 * [b""], granule=NONE),
@@ -196,6 +206,12 @@ FILMS = {
                                 "IDENT WRONG_BOTH TWO_LAST"),
 }
 
+# Films of film_blocks alone.
+BLOCK_FILMS = {
+    "TWO_SETUPS": ("Two links: a block, a packet that is skipped, two blocks; a bad packet, two blocks.",
+                   "IDENT SETUP SOUND_AND_SKIP SECOND_IDENT SECOND_MODES SOUND_BEGINS SOUND_ENDS"),
+}
+
 # Small films for examples by computation.
 SMALL = {
     "SHORT": page(FIRST, 7, [b"a"]),
@@ -207,7 +223,7 @@ SMALL = {
 def film(name):
     if name in SMALL:
         return SMALL[name]
-    return b"".join(PARTS[part] for part in FILMS[name][1].split())
+    return b"".join((PARTS | BLOCK_PARTS)[part] for part in (FILMS | BLOCK_FILMS)[name][1].split())
 
 
 def rows(head, items, columns, end):
@@ -223,9 +239,9 @@ def rows(head, items, columns, end):
 
 def rust(names):
     """A test file of films, as it stands."""
-    films = {name: FILMS[name] for name in names} if names else FILMS
+    films = {name: (FILMS | BLOCK_FILMS)[name] for name in names} if names else FILMS
     used = {part for _, parts in films.values() for part in parts.split()}
-    parts = {name: part for name, part in PARTS.items() if name in used} if names else PARTS | MANY
+    parts = {name: part for name, part in (PARTS | BLOCK_PARTS).items() if name in used} if names else PARTS | MANY
     command = " ".join(["tools/films.py rust", *names])
     lines = ["//! The films of the tests, as lists of their parts. This file is written by", f"//! `{command}`."]
     for name, part in parts.items():

@@ -1,8 +1,8 @@
 #!/usr/bin/env python3
 """Setup packets and heads of audio packets, for the tables of the tests.
 
-    tools/setups.py rows    prints crates/setup_header/src/tests/rows.rt
-    tools/setups.py films   prints crates/setup_header/src/tests/films.rt, by oggenc
+    tools/setups.py rows    prints crates/decoding_tests/src/setups/rows.rt
+    tools/setups.py films   prints crates/decoding_tests/src/setups/films.rt, by oggenc
     tools/setups.py bench   prints the setup packet of a stereo film of quality 5 as a constant, by oggenc
 
 Each packet of the rows is the smallest setup with a few of its parts changed; one that is refused ends in the
@@ -245,7 +245,7 @@ def print_rows():
 //! packets, and what they say.
 
 use super::{Accepted, Contents, Headed, Refused};
-use model_setup::{PacketHead, SetupCause};
+use setup_header::{PacketHead, SetupCause};
 ''')
     rows = list(accepted())
     print(f'pub const ACCEPTED: [Accepted; {len(rows)}] = [')

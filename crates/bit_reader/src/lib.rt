@@ -141,6 +141,3 @@ fn first_word(bytes: &[u8]) -> u64
         _ => LittleEndian::read_u64(bytes),
     }
 }
-
-#[cfg(test)]
-mod tests;

@@ -8,6 +8,3 @@ mod vorbis;
 pub use chain::{links, pages_in};
 pub use model_ogg::{LinkFault, LinkPages, MOST_LINKS, PageRef};
 pub use vorbis::begins_vorbis;
-
-#[cfg(test)]
-mod tests;

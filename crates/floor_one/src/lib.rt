@@ -14,6 +14,3 @@ pub use finals::{Finals, Floored};
 pub use floor::Floor;
 pub use laws::curve_meets_points;
 pub use model_setup::{Final, FloorFault};
-
-#[cfg(test)]
-mod tests;

@@ -9,6 +9,3 @@ mod start;
 pub use comments::comment;
 pub use identification::ident;
 pub use model_setup::{CommentCause, IdentCause, IdentFields};
-
-#[cfg(test)]
-mod tests;

@@ -21,6 +21,3 @@ pub use pieces::{Piece, Pieces};
 pub use sequence::NoMemory;
 pub use stream::packets;
 pub use walk::stream_len;
-
-#[cfg(test)]
-mod tests;

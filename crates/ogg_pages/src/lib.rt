@@ -11,6 +11,3 @@ pub use model_ogg::PageRef;
 pub use parts::{body, laces, segment_place};
 pub use scanner::scan;
 pub use sequence::NoMemory;
-
-#[cfg(test)]
-mod tests;

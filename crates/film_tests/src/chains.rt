@@ -1,4 +1,6 @@
-use super::*;
+//! `chain_links`: films by their pages, and their links.
+
+use chain_links::{LinkFault, LinkPages, MOST_LINKS, links};
 use ogg_pages::scan;
 use std::alloc::{AllocError, Global};
 use std::test::Fail;
@@ -121,11 +123,11 @@ const FILMS: [(&str, &[u8], u32, &str); 11] = [
 
 #[test]
 fn finds_links(rt: HostRuntime) -> Result<(), Fail> {
-    for (case, pages, times, expected) in FILMS {
-        let film = film_of(rt.alloc(), pages, times)?;
+    for (case, pages, times, expected) in &FILMS {
+        let film = film_of(rt.alloc(), pages, *times)?;
         let answer = links_of(rt.alloc(), &film);
         let found = text_of(rt.alloc(), &answer)?;
-        assert_eq!(rt; found.as_str(), expected, "{case}");
+        assert_eq!(rt; found.as_str(), *expected, "{case}");
     }
     Ok(())
 }

@@ -1,4 +1,6 @@
-use super::Bits;
+//! `bit_reader`: the bytes of packets, and the numbers that their bits give.
+
+use bit_reader::Bits;
 
 /// A field: how many bits are taken, what they give, and how many bits are taken then.
 type Field = (u32, Option<u32>, u64);

@@ -1,7 +1,9 @@
+//! `ogg_packets`: two pages, and the packets that lie on them.
+
 ghost use Rattle.std.specs.Prelude.{length};
 ghost use Rattle.ogg_packets.specs.Entries.{EntryLiesBefore};
 
-use super::*;
+use ogg_packets::{Entry, EntryFault, NoMemory, joined, packets, stream_len};
 use ogg_pages::scan;
 use std::alloc::Global;
 use std::test::Fail;
@@ -58,37 +60,39 @@ fn joins_a_packet_over_two_pages(rt: HostRuntime) -> Result<(), Fail> {
     Ok(())
 }
 
+/// What a row shows, a serial number, a limit, how many pages the stream has, and the fault.
+const LIMITS: [(&str, u32, u32, usize, Option<EntryFault>); 3] = [
+    ("of no packets", 2, 0, 0, None),
+    ("as many as the limit", 1, 2, 2, None),
+    (
+        "one more than the limit",
+        1,
+        1,
+        2,
+        Some(EntryFault::TooMany),
+    ),
+];
+
 #[test]
 fn gives_no_more_packets_than_the_limit(rt: HostRuntime) -> Result<(), Fail> {
     let pages = scan(rt.alloc(), &TWO_PAGES)?;
-    let rows = [
-        ("of no packets", 2, 0, 0, None),
-        ("as many as the limit", 1, 2, 2, None),
-        (
-            "one more than the limit",
-            1,
-            1,
-            2,
-            Some(EntryFault::TooMany),
-        ),
-    ];
-    for (case, serial, limit, page_count, fault) in rows {
-        assert_eq!(rt; stream_len(&pages, serial), page_count, "{case}");
-        let answer = packets(rt.alloc(), &TWO_PAGES, &pages, serial, limit);
-        assert_eq!(rt; answer.err(), fault, "{case}");
+    for (case, serial, limit, page_count, fault) in &LIMITS {
+        assert_eq!(rt; stream_len(&pages, *serial), *page_count, "{case}");
+        let answer = packets(rt.alloc(), &TWO_PAGES, &pages, *serial, *limit);
+        assert!(rt; answer.err() == *fault, "{case}");
     }
     Ok(())
 }
 
+const TEXTS: [(EntryFault, &str); 2] = [
+    (EntryFault::TooMany, "too many packets"),
+    (EntryFault::Memory, "out of memory"),
+];
+
 #[test]
 fn says_what_is_wrong(rt: HostRuntime) -> Result<(), Fail> {
-    let rows = [
-        (EntryFault::TooMany, "too many packets"),
-        (EntryFault::Memory, "out of memory"),
-    ];
-    for (fault, expected) in rows {
-        let text = format!(in rt.alloc(); "{fault}")?;
-        assert_eq!(rt; text.as_str(), expected);
+    for (fault, text) in &TEXTS {
+        assert_eq!(&rt; fault.to_string(rt.alloc())?.as_str(), *text);
     }
     Ok(())
 }

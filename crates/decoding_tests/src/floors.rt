@@ -1,25 +1,17 @@
-//! Floors and packets as `tools/reference.py` draws them, and what it reads from them.
+//! `floor_one`: floors and packets as `tools/reference.py` draws them, and what it reads from them.
 
 ghost use Rattle.std.specs.Prelude.{◌≡◌, length};
 
-use super::*;
+use crate::given_books::read_book;
 use bit_reader::Bits;
-use codebooks::{Book, Budget};
-use std::alloc::Global;
+use codebooks::Book;
+use floor_one::{Final, Floor, FloorFault, Floored};
 use std::process::Abort;
 use std::test::Fail;
 
 mod rows;
 
 use rows::{BOOK_0, BOOK_1, BOOK_2, ROWS, Row};
-
-fn read_book(alloc: Global, bytes: &[u8]) -> Result<Book, Fail> {
-    let mut budget = Budget {
-        entries: 1000,
-        multiplicands: 1000,
-    };
-    Ok(Book::read(alloc, &mut Bits::new(bytes), &mut budget)?)
-}
 
 /// A floor with one partition of one value: 256 heights, a range of 7 bits, and its third point at
 /// bin 64.
@@ -221,9 +213,9 @@ const REFUSALS: [(&str, &[u8], u32, Option<FloorFault>); 9] = [
 
 #[test]
 fn refuses_by_the_first_cause(rt: HostRuntime) {
-    for (name, setup, books, want) in REFUSALS {
-        let fault = Floor::read(&mut Bits::new(setup), books).err();
-        assert!(rt; fault == want, "{name}");
+    for (name, setup, books, want) in &REFUSALS {
+        let fault = Floor::read(&mut Bits::new(setup), *books).err();
+        assert!(rt; fault == *want, "{name}");
     }
     for count in 0..THREE_POINTS.len() {
         let fault = Floor::read(&mut Bits::new(&THREE_POINTS[..count]), 1).err();
@@ -231,22 +223,22 @@ fn refuses_by_the_first_cause(rt: HostRuntime) {
     }
 }
 
+const TEXTS: [(FloorFault, &str); 3] = [
+    (FloorFault::End, "the packet ends within a floor"),
+    (
+        FloorFault::Book,
+        "a floor names a codebook that the setup doesn't have",
+    ),
+    (
+        FloorFault::List,
+        "a floor has more than 65 points, or two points at one bin of the spectrum",
+    ),
+];
+
 #[test]
-fn faults_have_texts(rt: HostRuntime) -> Result<(), Fail> {
-    let rows = [
-        (FloorFault::End, "the packet ends within a floor"),
-        (
-            FloorFault::Book,
-            "a floor names a codebook that the setup doesn't have",
-        ),
-        (
-            FloorFault::List,
-            "a floor has more than 65 points, or two points at one bin of the spectrum",
-        ),
-    ];
-    for (fault, text) in rows {
-        let written = format!(in rt.alloc(); "{fault}")?;
-        assert_eq!(rt; written.as_str(), text);
+fn says_what_is_wrong(rt: HostRuntime) -> Result<(), Fail> {
+    for (fault, text) in &TEXTS {
+        assert_eq!(&rt; fault.to_string(rt.alloc())?.as_str(), *text);
     }
     Ok(())
 }

@@ -1,4 +1,6 @@
-use crate::{CommentCause, IdentCause, IdentFields, comment, ident};
+//! `head_packets`: identification and comment packets, and what they say.
+
+use head_packets::{CommentCause, IdentCause, IdentFields, comment, ident};
 use std::alloc::AllocError;
 
 /// What the packet of the file says.
@@ -215,15 +217,15 @@ const COMMENT: [(&str, &[u8], Result<u32, CommentCause>); 15] = [
 
 #[test]
 fn reads_identification(rt: HostRuntime) {
-    for (name, bytes, wanted) in IDENTIFICATION {
-        assert_eq!(&rt; ident(bytes), wanted, "{name}");
+    for (name, bytes, wanted) in &IDENTIFICATION {
+        assert_eq!(&rt; ident(bytes), *wanted, "{name}");
     }
 }
 
 #[test]
 fn reads_comment(rt: HostRuntime) {
-    for (name, bytes, wanted) in COMMENT {
-        assert_eq!(&rt; comment(bytes), wanted, "{name}");
+    for (name, bytes, wanted) in &COMMENT {
+        assert_eq!(&rt; comment(bytes), *wanted, "{name}");
     }
 }
 

@@ -1,4 +1,6 @@
-use super::*;
+//! `ogg_pages`: bytes with pages among them, and checksums.
+
+use ogg_pages::{PageRef, checksum, scan};
 use std::alloc::{AllocError, Global};
 use std::test::Fail;
 

@@ -1,7 +1,9 @@
+//! `player_session`: films and words, and what a run over memory writes.
+
 mod films;
 mod library_example;
 
-use super::*;
+use player_session::{Status, player, player_alone};
 use std::alloc::{AllocError, Global};
 use std::process::Abort;
 use std::test::Fail;
@@ -210,7 +212,7 @@ fn lines_of(alloc: Global, counts: &str, frames: u64, gaps: u64) -> Result<Strin
 
 #[test]
 fn films_of_one_link(rt: HostRuntime) -> Result<(), Fail> {
-    for row in ONE_LINK {
+    for row in &ONE_LINK {
         let film = joined(rt.alloc(), row.parts)?;
         let run = run_words(rt.alloc(), &["info", "f"], &film, NOTHING_FAILS)?;
         let lines = lines_of(rt.alloc(), row.counts, row.frames, row.gaps)?;
@@ -246,7 +248,7 @@ total 32
 
 #[test]
 fn chains_and_streams(rt: HostRuntime) -> Result<(), Fail> {
-    for (case, parts, lines) in MORE_LINKS {
+    for (case, parts, lines) in &MORE_LINKS {
         let film = joined(rt.alloc(), parts)?;
         let run = run_words(rt.alloc(), &["info", "f"], &film, NOTHING_FAILS)?;
         assert_ends(&rt, case, &run, Status::Ok, lines.as_bytes(), b"");
@@ -402,10 +404,10 @@ fn assert_refused(
 
 #[test]
 fn refusals(rt: HostRuntime) -> Result<(), Fail> {
-    for (case, words, status, text) in REFUSED_WORDS {
-        assert_refused(&rt, rt.alloc(), case, words, b"", (status, text))?;
+    for (case, words, status, text) in &REFUSED_WORDS {
+        assert_refused(&rt, rt.alloc(), case, words, b"", (*status, *text))?;
     }
-    for (case, parts, text) in REFUSED_FILMS {
+    for (case, parts, text) in &REFUSED_FILMS {
         let film = joined(rt.alloc(), parts)?;
         assert_refused(
             &rt,
@@ -413,7 +415,7 @@ fn refusals(rt: HostRuntime) -> Result<(), Fail> {
             case,
             &["info", "f"],
             &film,
-            (Status::Film, text),
+            (Status::Film, *text),
         )?;
     }
     Ok(())
@@ -505,8 +507,11 @@ fn a_film_that_is_too_long_and_want_of_memory(rt: HostRuntime) -> Result<(), Fai
         (FetchFault::Failed, Status::Input, "cannot read f\n"),
         (FetchFault::Memory, Status::Memory, "memory\n"),
     ];
-    for (fault, want, line) in rows {
-        let mut shelf = FaultyShelf { fault, faults: 0 };
+    for (fault, want, line) in &rows {
+        let mut shelf = FaultyShelf {
+            fault: *fault,
+            faults: 0,
+        };
         let mut out = MemSink::new(alloc, Vec::new(alloc));
         let mut notes = MemSink::new(alloc, Vec::new(alloc));
         let status = player(alloc, &words, &mut shelf, &mut out, &mut notes, &OpenGate);
@@ -514,7 +519,7 @@ fn a_film_that_is_too_long_and_want_of_memory(rt: HostRuntime) -> Result<(), Fai
             &rt,
             line,
             &Run { status, out, notes },
-            want,
+            *want,
             b"",
             line.as_bytes(),
         );
@@ -525,8 +530,8 @@ fn a_film_that_is_too_long_and_want_of_memory(rt: HostRuntime) -> Result<(), Fai
 #[test]
 fn a_refusal_whose_line_finds_no_memory(rt: HostRuntime) -> Result<(), Fail> {
     let alloc = rt.alloc();
-    for case in [["info", "g"], ["inf", "f"]] {
-        let words = words_of(alloc, &case)?;
+    for case in &[["info", "g"], ["inf", "f"]] {
+        let words = words_of(alloc, case)?;
         let mut shelf = MemShelf::new(alloc, Vec::new(alloc), Vec::new(alloc));
         let mut out = CleanSink::new(alloc);
         let mut notes = NarrowSink {
