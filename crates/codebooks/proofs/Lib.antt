@@ -3,6 +3,7 @@ pub mod Claims
 pub mod WordLists
 pub mod Finds
 pub mod Looks
+pub mod TurnedNumbers
 pub mod Permuted
 pub mod LengthLists
 pub mod Comparisons

@@ -1,9 +1,8 @@
 -- The word that bits begin with, by the number of the next 32.
-use Rattle.std.proofs.Common.{◌≡◌, ℕ, zero, suc, ◌+◌, ◌-◌, ◌*◌, ◌/◌, ◌%◌, ◌^◌, ◌<◌, ◌≤◌, List, [], ◌∷◌, ◌++◌, length, length-take, take, drop, get_or, ◌⊎◌, Option, Some, None, Bool, true, false, leb, ltb, inl, inr, refl, ap, sym, ◌∙◌, subst, arith}
+use Rattle.std.proofs.Common.{◌≡◌, ℕ, zero, suc, ◌+◌, ◌-◌, ◌*◌, ◌/◌, ◌%◌, ◌^◌, ◌<◌, ◌≤◌, List, [], ◌∷◌, length, length-take, take, drop, get_or, ◌⊎◌, Some, None, Bool, true, false, leb, ltb, inl, inr, refl, ap, sym, ◌∙◌, subst, arith}
 use Rattle.std.proofs.lemmas.Bool.{and_parts, and_from, cases_lt, leb-true, ltb-true, le-leb, lt-ltb, false_from_ne_true, both_ways}
 use Rattle.std.proofs.lemmas.Bool.Decides.{nat_tests}
-use Rattle.std.proofs.lemmas.List.{get_or_default, take_all, get_or-append-add}
-use Rattle.std.proofs.Math.ListN.{get_or-append}
+use Rattle.std.proofs.lemmas.List.{get_or_default, take_all}
 use Rattle.std.proofs.lemmas.List.Elements.{All-contains}
 use Rattle.std.proofs.lemmas.Option.{none-some, some_pair_parts}
 use Rattle.std.proofs.lemmas.Nat.{pow_pos, pow-add}
@@ -20,7 +19,7 @@ use Rattle.model_setup.proofs.Digits.{Within, bit_below, look_below, begins_to, 
 use Rattle.codebooks.specs.declared.word_table.Place.{Place}
 use Rattle.codebooks.specs.Free.{claims}
 use Rattle.codebooks.specs.Looks.{IsRising, SameOrApart, Finds, IsBegun, NoneBegins}
-use Rattle.codebooks.specs.WordTables.{IsShortWord, IsPlaceOf, ArePlaces}
+use Rattle.codebooks.specs.WordTables.{IsShortWord, IsPlaceOf}
 
 pub look-nil : (count : ℕ) → look_high count [] ≡ 0
 unfolding look_high
@@ -200,15 +199,3 @@ near_some words bits n left rest place placed s h =
 pub near_short : (words : List Word) (bits : ℕ) (left : List Bool) (place : Place) → All IsPlaced words → SameOrApart words → IsShortWord words bits (look_high 32 left) place → take_bits place.len left ≡ None → NoneBegins words left
 near_short words bits left place placed apart s h =
     claimed_short words left s.word placed apart s.among s.claimed (subst (λ (m : ℕ). take_bits m left ≡ None) s.len_is h)
-
--- a place more
-pub places_push : (words : List Word) (bits i : ℕ) (places : List Place) (place : Place) → length places ≡ i → ((k : ℕ) (d : Place) → k < i → IsPlaceOf words bits (reverse_bits_onto 32 k 0) (get_or places k d))
-    → IsPlaceOf words bits (reverse_bits_onto 32 i 0) place → (k : ℕ) (d : Place) → k < i + 1 → IsPlaceOf words bits (reverse_bits_onto 32 k 0) (get_or (places ++ place ∷ []) k d)
-places_push words bits i places place count before here k d h = elim (cases_lt k i) [
-  | inl less ↦ let l : k < length places = omega arith in rw (get_or-append places (place ∷ []) d k l) (before k d less)
-  | inr more ↦
-      let same : k ≡ i = omega arith in
-      let at : length places + 0 ≡ i = omega arith in
-      let last : get_or (places ++ place ∷ []) i d ≡ place = ap (λ n. get_or (places ++ place ∷ []) n d) (sym at) ∙ get_or-append-add places (place ∷ []) 0 d in
-      rw (same, last) here
-]

@@ -6,8 +6,6 @@ mod fields;
 mod fixed;
 mod lengths;
 mod lookup;
-#[cfg(test)]
-mod tests;
 mod tree_laws;
 mod word_table;
 mod words;

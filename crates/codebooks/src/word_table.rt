@@ -1,14 +1,14 @@
-ghost use Rattle.std.specs.Prelude.{◌≡◌, ◌≤◌, ◌<◌, [], length, List, IfSome, IfNone, IfOk, Some, None};
-ghost use Rattle.std.specs.List.{All, AllPairs};
+ghost use Rattle.std.specs.Prelude.{◌≡◌, ◌≤◌, ◌<◌, ◌^◌, [], length, List, IfSome, IfNone, IfOk, Some, None};
+ghost use Rattle.std.specs.List.{All, AllPairs, Contains};
 ghost use Rattle.std.specs.List.Sorted.{IsPermutation};
 ghost use Rattle.std.specs.Option.{ok_or};
 ghost use Rattle.sequence.specs.Answers.{Answers};
 ghost use Rattle.model_setup.specs.declared.book.Word.{Word};
-ghost use Rattle.model_setup.specs.Codewords.{book_words, entry_by, AreApart};
+ghost use Rattle.model_setup.specs.Codewords.{book_words, entry_by, IsPlaced, AreApart};
 ghost use Rattle.codebooks.specs.Books.{IsTree, words_or_none};
 ghost use Rattle.codebooks.specs.Free.{IsLengthIfUsed, claims};
 ghost use Rattle.codebooks.specs.Looks.{IsRising, SameOrApart, Finds, IsBegun, NoneBegins};
-ghost use Rattle.codebooks.specs.WordTables.{IsPlaceOf, ArePlaces};
+ghost use Rattle.codebooks.specs.WordTables.{ArePlaces};
 
 use crate::words::{codewords, size_of};
 use bit_reader::Bits;
@@ -62,18 +62,28 @@ fn table_width(words: &[Word]) -> u32
     u32::from(longest.unwrap_or(1)).clamp(1, MOST_WIDTH)
 }
 
-/// What the table of so many bits holds for a number that begins with them.
-fn place_of(words: &[Word], width: u32, number: u32) -> Place
-    requires rising { IsRising words.now }
-    requires apart { SameOrApart words.now }
-    ensures { IsPlaceOf words.now width number result }
+/// Writes what a word's codeword stands for at each number of the table that begins with it. Where
+/// the codeword is longer than the table's bits, there is none.
+fn write_places(places: &mut [Place], width: u32, word: &Word)
+    requires few { width ≤ MOST_WIDTH }
+    requires placed { IsPlaced word.now }
+    requires count { length places.old ≡ 2 ^ width }
+    ensures count { length places.new ≡ 2 ^ width }
+    ensures places { (words : List Word) → Contains words word.now
+        → ArePlaces words width places.old → ArePlaces words width places.new }
 {
-    match bisect(words, number) {
-        Some(word) if u32::from(word.len) <= width => Place {
-            entry: word.entry,
-            len: word.len,
-        },
-        _ => Place { entry: 0, len: 0 },
+    let len = u32::from(word.len);
+    if len > width {
+        return;
+    }
+    let place = Place {
+        entry: word.entry,
+        len: word.len,
+    };
+    let first = word.start.reverse_bits() as usize;
+    let step = 1usize << len;
+    for i in 0..1usize << (width - len) {
+        places[first + i * step] = place;
     }
 }
 
@@ -81,13 +91,12 @@ fn place_of(words: &[Word], width: u32, number: u32) -> Place
 /// them the lowest.
 fn places_of(alloc: Global, words: &[Word], width: u32) -> Result<Vec<Place>, AllocError>
     requires few { width ≤ MOST_WIDTH }
-    requires rising { IsRising words.now }
-    requires apart { SameOrApart words.now }
+    requires placed { All IsPlaced words.now }
     ensures { IfOk result (λ v. ArePlaces words.now width v.items) }
 {
-    let mut places = Vec::new(alloc);
-    for i in 0..1u32 << width {
-        places.push(place_of(words, width, i.reverse_bits()))?;
+    let mut places = vec![in alloc; Place { entry: 0, len: 0 }; 1usize << width]?;
+    for word in words {
+        write_places(&mut places, width, word);
     }
     Ok(places)
 }

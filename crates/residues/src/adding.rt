@@ -1,4 +1,4 @@
-ghost use Rattle.std.specs.Prelude.{◌≡◌, ◌≤◌, ◌<◌, ◌^◌, ◌+◌, ◌*◌, ◌+ℤ◌, [], length, ℕ, slice_index_or};
+ghost use Rattle.std.specs.Prelude.{◌≡◌, ◌≤◌, ◌<◌, ◌^◌, ◌+◌, ◌*◌, ◌/◌, ◌%◌, ◌+ℤ◌, [], length, ℕ, slice_index_or};
 ghost use Rattle.model_fixed.specs.Fixed.{IsWithinLimit, limited};
 ghost use Rattle.std.specs.List.{All};
 ghost use Rattle.model_setup.specs.ResidueDecoding.{add_all, reading_places};
@@ -49,6 +49,20 @@ pub fn add_to_line(line: &mut Line, run: Run, values: &[i64])
     }
 }
 
+/// Where a place of so many lines taken together is: the line, and the place in it. One line and
+/// two, which films mostly have, take no division.
+fn line_of(place: usize, channels: usize) -> (usize, usize)
+    requires { 0 < channels }
+    ensures channel { result.0 ≡ place % channels }
+    ensures place { result.1 ≡ place / channels }
+{
+    match channels {
+        1 => (0, place),
+        2 => (place % 2, place / 2),
+        _ => (place % channels, place / channels),
+    }
+}
+
 /// Adds values to those of the lines taken together, from a place on.
 pub fn add_across(lines: &mut [Line], size: usize, first: usize, count: usize, values: &[i64])
     requires lines { AreLines size lines.old }
@@ -63,8 +77,7 @@ pub fn add_across(lines: &mut [Line], size: usize, first: usize, count: usize, v
     if channels == 0 {
         return;
     }
-    let mut channel = first % channels;
-    let mut place = first / channels;
+    let (mut channel, mut place) = line_of(first, channels);
     for j in 0..count {
         let line = lines[channel].items_mut();
         line[place] = limited_sum(line[place], values[j]);

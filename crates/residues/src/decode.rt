@@ -49,6 +49,8 @@ impl Residue {
         requires zero { AreZero vectors.old }
         ensures decoded { OnOk result ((vectors.new, bits.new.left)
             ≡ residue_vectors books.now self.now (line_size vectors.old) wanted.now bits.old.left) }
+        ensures sizes { OnOk result
+            (All (λ line. length line ≡ line_size vectors.old) vectors.new) }
         ensures small { All (All IsWithinLimit) vectors.new }
         ensures bytes { bits.new.total ≡ bits.old.total }
         ensures kept_vectors { OnErr result (vectors.new ≡ vectors.old) }

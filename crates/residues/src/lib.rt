@@ -17,6 +17,3 @@ pub use lines::{Line, zero_lines};
 pub use model_setup::{ResidueFault, ResidueKind};
 pub use residue::Residue;
 pub use sequence::NoMemory;
-
-#[cfg(test)]
-mod tests;

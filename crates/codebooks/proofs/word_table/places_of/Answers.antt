@@ -1,12 +1,17 @@
-use Rattle.std.proofs.Common.{length-append, arith}
-use Rattle.codebooks.proofs.Looks.{places_push}
+use Rattle.std.proofs.Common.{◌≡◌, length, get_or, sym, ◌∙◌}
+use Rattle.std.proofs.lemmas.List.{get_or_default}
+use Rattle.std.proofs.Math.Seq.{take-append_seam}
+use Rattle.model_setup.specs.declared.book.Word.{Word}
 use Rattle.codebooks.proofs.word_table.places_of.Goals as goal
 
-pub loop-i-preserved : goal.loop-i-preserved
-loop-i-preserved c =
-    let l = c.loop-i in
-    let f = rw c.reverse_bits.ensures at c.place_of.ensures in
-    rw c.in_ok-push.ensures.items (record {
-      count = let k = l.invariant.count in simp length-append (omega arith);
-      each = places_push c.args.words.now c.args.width l.i l.places.items c.place_of.result l.invariant.count l.invariant.each f;
-    })
+abbrev none : Word
+none = record { entry = 0; len = 0; start = 0 }
+
+pub loop-word-preserved : goal.loop-word-preserved
+loop-word-preserved c =
+    let words = c.args.words.now in
+    let k = c.loop-word.word-index in
+    let w = get_or words k none in
+    let within = c.loop-word-test.true in
+    let same : c.loop-word.places.len ≡ length c.write_places.new.places = c.loop-word.places.ok.0 ∙ c.loop-word.invariant.count ∙ sym c.write_places.ensures.count in
+    rw (same, take-append_seam) (c.write_places.ensures.places words (k, within, get_or_default words k w none within) (rw c.deref_mut.ensures.value c.loop-word.invariant))

@@ -1,13 +1,10 @@
-use Rattle.std.proofs.Common.{arith}
 use Rattle.model_setup.specs.Codewords.{book_words}
 use Rattle.codebooks.specs.Books.{words_or_none}
 use Rattle.codebooks.proofs.Permuted.{sorted_apart}
 use Rattle.codebooks.proofs.word_table.WordTable.new.Goals as goal
 
-pub places_of-requires-clause-apart : goal.places_of-requires-clause-apart
-places_of-requires-clause-apart c =
-    let t = c.in_ok-words.ensures.tree in
-    rw c.deref-2.ensures.value (sorted_apart (words_or_none (book_words c.args.lengths.now)) c.in_ok-words.words.items t.apart t.same)
+pub places_of-requires-clause-placed : goal.places_of-requires-clause-placed
+places_of-requires-clause-placed c = rw c.deref-2.ensures.value c.in_ok-words.ensures.tree.placed
 
 pub invariant_of-result : goal.invariant_of-result
 invariant_of-result c =

@@ -66,3 +66,9 @@ returns-clause-decoded c =
           lines_decoded c.args.books.now c.args.self.now size c.args.wanted.now c.args.bits.now.left new.bits.now.left lines new.lines.now new.classes.now (is_some c.read_passes-ended.result) kinds c.requires.sizes c.requires.zero c.requires.wanted here
     ] in
     search rules
+
+pub returns-clause-sizes : goal.returns-clause-sizes
+returns-clause-sizes c =
+    let lines_same = c.read_passes-ended.ensures.parts.lines in
+    let sizes : All (λ line. length line ≡ line_size c.args.vectors.now) c.read_passes-ended.new.workspace.lines.now = rw (c.decoder-decoder.ensures.line_size, c.size_of_line-line_size.ensures) at c.read_passes-ended.ensures.room.layout.are_lines.sizes in
+    search rules
