@@ -8,6 +8,7 @@ ghost use Rattle.model_synthesis.specs.ConstantsFile.{first_past, numbers_of, ta
 
 use crate::file::{check_ranges, file_body, read_section};
 use crate::turns::{LEAST_EXPONENT, Turn, lay_out_turns};
+use half_sums::Transforms;
 use model_synthesis::{
     COSINE_COUNT, ConstantsFault, DECIBEL_COUNT, SCALE, SLOPE_COUNT, SMALLEST_SLOPE,
 };
@@ -22,8 +23,8 @@ pub struct Constants {
     decibels: Vec<u32>,
     /// The slopes of all sizes, the shortest first.
     slopes: Vec<u32>,
-    /// The cosines of a quarter turn.
-    cosines: Vec<u32>,
+    /// The cosines of a quarter turn, and what the sums of all block sizes are made with.
+    transforms: Transforms,
     /// The turns of all block sizes, the shortest first.
     turns: Vec<Turn>,
 }
@@ -38,15 +39,15 @@ impl Model for Constants {
       scale = a.scale;
       decibels = a.decibels.items;
       slopes = a.slopes.items;
-      cosines = a.cosines.items;
+      cosines = a.transforms;
     } };
 
     ghost invariant = { λ a. AreTables (record {
       scale = a.scale;
       decibels = a.decibels.items;
       slopes = a.slopes.items;
-      cosines = a.cosines.items;
-    }) × (a.turns.items ≡ turns_of a.cosines.items) };
+      cosines = a.transforms;
+    }) × (a.turns.items ≡ turns_of a.transforms) };
 }
 
 /// Where the value at a place of the slope of this size stands. The slopes before it, each half as
@@ -70,11 +71,12 @@ fn constants_in(alloc: Global, body: &[u8]) -> Result<Constants, AllocError>
     let slopes = read_section(alloc, body, DECIBEL_COUNT, SLOPE_COUNT)?;
     let cosines = read_section(alloc, body, DECIBEL_COUNT + SLOPE_COUNT, COSINE_COUNT)?;
     let turns = lay_out_turns(alloc, &cosines)?;
+    let transforms = Transforms::new(alloc, cosines)?;
     Ok(Constants {
         scale: SCALE,
         decibels,
         slopes,
-        cosines,
+        transforms,
         turns,
     })
 }
@@ -97,6 +99,7 @@ impl Constants {
     pub fn scale(&self) -> u32
         ensures value { result ≡ self.now.scale }
         ensures most { result ≤ SCALE }
+        ensures set { result ≡ SCALE }
     {
         self.scale
     }
@@ -129,6 +132,13 @@ impl Constants {
         ensures small { All (λ c. unsigned_abs c ≤ 2 ^ self.now.scale) result.now }
     {
         self.turns[(block.ilog2() - LEAST_EXPONENT) as usize].items()
+    }
+
+    /// What the half sums of blocks of each size are made with.
+    pub fn transforms(&self) -> &Transforms
+        ensures { result.now ≡ self.now.cosines }
+    {
+        &self.transforms
     }
 
     /// The cosine of an odd number of steps, of which a block of this size has four times its size

@@ -5,10 +5,14 @@
 mod block;
 mod coupling;
 mod spectrum;
+mod sums;
+mod unfolding;
 
 pub use block::transform;
 pub use coupling::{uncouple, uncouple_all};
 pub use spectrum::shape;
+pub use sums::half_sums;
+pub use unfolding::unfold_sums;
 
 #[cfg(test)]
 mod tests;

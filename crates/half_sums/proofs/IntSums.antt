@@ -7,7 +7,7 @@ pub sum_same : (n : ℕ) (f g : ℕ → ℤ) → ((i : ℕ) → i < n → f i �
 sum_same zero f g h = refl
 sum_same (suc n) f g h = ap (λ x. x +ℤ f n) (sum_same n f g (λ i below. h i (omega arith))) ∙ ap (λ x. sum_below n g +ℤ x) (h n (omega arith))
 
-swap_middle : (a b c d : ℤ) → (a +ℤ b) +ℤ (c +ℤ d) ≡ (a +ℤ c) +ℤ (b +ℤ d)
+pub swap_middle : (a b c d : ℤ) → (a +ℤ b) +ℤ (c +ℤ d) ≡ (a +ℤ c) +ℤ (b +ℤ d)
 swap_middle a b c d = +ℤ_assoc a b (c +ℤ d) ∙ (ap (λ x. a +ℤ x) (sym (+ℤ_assoc b c d) ∙ (ap (λ x. x +ℤ d) (+ℤ_comm b c) ∙ +ℤ_assoc c b d)) ∙ sym (+ℤ_assoc a c (b +ℤ d)))
 
 pub sum_add : (n : ℕ) (f g : ℕ → ℤ) → sum_below n (λ i. f i +ℤ g i) ≡ sum_below n f +ℤ sum_below n g

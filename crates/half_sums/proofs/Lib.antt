@@ -7,7 +7,11 @@ pub mod Correlation
 pub mod PlaceLaws
 pub mod Filled
 pub mod Bounds
+pub mod LaneLemmas
+pub mod SmallSums
+pub mod SilentSums
 pub mod Whole
 pub mod SumsAtPlaces
+pub mod ShareSums
 pub mod LaidOut
 pub mod Pushed

@@ -1,11 +1,11 @@
 -- What is laid out for blocks of one size.
-use Rattle.std.specs.Prelude.{ℕ, ◌≡◌, ◌*◌, ◌%◌, ◌^◌, ◌≤◌, ℤ, List, length, map, slice_get, slice_index, Some}
+use Rattle.std.specs.Prelude.{ℕ, ◌≡◌, ◌*◌, ◌%◌, ◌^◌, ◌≤◌, ◌<◌, ℤ, pos, ◌+ℤ◌, List, length, map, slice_get, slice_index, Some}
 use Rattle.std.specs.List.{range_with_len}
 use Rattle.prime_field.specs.Residues.{residue_of}
 use Rattle.model_synthesis.specs.declared.constants.TheConstants.{COSINE_COUNT, SCALE}
 use Rattle.model_synthesis.specs.Tables.{wave, first_quarter}
 use Rattle.polynomial_product.specs.Factors.{factor_of}
-use Rattle.half_sums.specs.declared.block.TheConstants.{BIN_STEP, SUM_STEP}
+use Rattle.half_sums.specs.declared.block.TheConstants.{BIN_STEP, SUM_STEP, SHORT_LEVELS}
 use Rattle.half_sums.specs.declared.block.Block.{Block}
 use Rattle.half_sums.specs.declared.places.Place.{Place}
 use Rattle.half_sums.specs.Places.{IsBinPlace, IsSumPlace}
@@ -47,10 +47,23 @@ pub record AreSumPlaces (levels : ℕ) (places : List Place) : Type 0 where
       → slice_get places a ≡ Some p
       → IsSumPlace (size_of levels) (power_step SUM_STEP (size_of levels) a) p
 
--- a block's places and its factor
+-- Each cosine at a power of the step of sums, with its sign changed and raised so that it isn't
+-- below zero. The powers go on past the number of sums, since a bin takes them from its own place
+-- on.
+pub record AreWaves (levels : ℕ) (cosines waves : List ℕ) : Type 0 where
+  pub count : length waves ≡ 3 * 2 ^ levels
+  pub small : (k : ℕ) → slice_index waves k ≤ 2 * 2 ^ SCALE
+  pub each :
+      (k : ℕ)
+      → k < 3 * 2 ^ levels
+      → (pos (slice_index waves k) +ℤ cosine_at cosines (size_of levels) (SUM_STEP ^ k))
+      ≡ pos (2 ^ SCALE)
+
+-- a block's places, its factor, and the waves of a short one
 pub record IsBlockFor (levels : ℕ) (cosines : List ℕ) (block : Block) : Type 0 where
   pub some : 2 ≤ levels
   pub few : levels ≤ 12
   pub bins : AreBinPlaces levels block.bins.items
   pub sums : AreSumPlaces levels block.sums.items
   pub factor : block.factor.items ≡ factor_of levels (cosine_list cosines levels)
+  pub waves : levels ≤ SHORT_LEVELS → AreWaves levels cosines block.waves.items

@@ -2,3 +2,4 @@ pub mod HalfSums
 pub mod Places
 pub mod Blocks
 pub mod Layouts
+pub mod Shares

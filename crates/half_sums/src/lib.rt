@@ -7,11 +7,13 @@
 
 mod block;
 mod exchange;
+mod lanes;
 mod making;
 mod places;
+mod silence;
 mod transforms;
 
-pub use block::Block;
+pub use block::{Block, SHORT_LEVELS};
 pub use places::Place;
 pub use transforms::Transforms;
 

@@ -1,9 +1,11 @@
-ghost use Rattle.std.specs.Prelude.{◌≡◌, ◌≤◌, ◌<◌, ◌+◌, ◌*◌, ◌/◌, ◌%◌, ◌^◌, ℕ, IfOk};
+ghost use Rattle.std.specs.Prelude.{◌≡◌, ◌≤◌, ◌<◌, ◌+◌, ◌*◌, ◌/◌, ◌%◌, ◌^◌, ◌+ℤ◌, ℕ, pos, unsigned_abs, IfOk};
+ghost use Rattle.model_synthesis.specs.declared.constants.TheConstants.{SCALE};
 ghost use Rattle.polynomial_product.specs.Factors.{factor_of};
-ghost use Rattle.half_sums.specs.Blocks.{AreCosines, AreBinPlaces, AreSumPlaces, IsBlockFor, cosine_list, size_of};
+ghost use Rattle.half_sums.specs.Blocks.{AreCosines, AreWaves, AreBinPlaces, AreSumPlaces, IsBlockFor, cosine_list, size_of};
 
-use crate::block::{BIN_STEP, Block, SUM_STEP};
-use crate::places::{Place, bin_place, cosine_residue, sum_place};
+use crate::block::{BIN_STEP, Block, SHORT_LEVELS, SUM_STEP};
+use crate::places::{Place, bin_place, cosine, cosine_residue, sum_place};
+use model_synthesis::SCALE;
 use polynomial_product::Multiplier;
 use std::alloc::{AllocError, Global};
 
@@ -86,6 +88,46 @@ fn cosine_factor(
     Ok(values)
 }
 
+/// A cosine with its sign changed, raised so that it isn't below zero.
+fn raised(cosine: i64) -> u64
+    requires { unsigned_abs cosine ≤ 2 ^ SCALE }
+    ensures value { (pos result +ℤ cosine) ≡ pos (2 ^ SCALE) }
+    ensures small { result ≤ 2 * 2 ^ SCALE }
+{
+    ((1 << SCALE) - cosine) as u64
+}
+
+/// What the bins of a short block are multiplied by.
+fn waves(alloc: Global, cosines: &[u32], levels: u32) -> Result<Vec<u64>, AllocError>
+    requires some { 2 ≤ levels }
+    requires few { levels ≤ 12 }
+    requires cosines { AreCosines cosines.now }
+    ensures { IfOk result (λ waves. AreWaves levels cosines.now waves.items) }
+{
+    let size = block_size(levels);
+    let mut waves = Vec::with_capacity(alloc, 3 * (size / 2))?;
+    let mut step = 1;
+    for _ in 0..3 * (size / 2) {
+        waves.push(raised(cosine(cosines, size, step)))?;
+        step = step * SUM_STEP % (4 * size);
+    }
+    Ok(waves)
+}
+
+/// The waves of a short block, and none for a long one.
+fn waves_of_short(alloc: Global, cosines: &[u32], levels: u32) -> Result<Vec<u64>, AllocError>
+    requires some { 2 ≤ levels }
+    requires few { levels ≤ 12 }
+    requires cosines { AreCosines cosines.now }
+    ensures { IfOk result (λ waves. levels ≤ SHORT_LEVELS
+        → AreWaves levels cosines.now waves.items) }
+{
+    if levels > SHORT_LEVELS {
+        return Ok(Vec::new(alloc));
+    }
+    waves(alloc, cosines, levels)
+}
+
 /// Lays out what the half sums of blocks of 2^levels bins are made with.
 pub fn make_block(
     alloc: Global,
@@ -101,5 +143,11 @@ pub fn make_block(
     let bins = bin_places(alloc, levels)?;
     let sums = sum_places(alloc, levels)?;
     let factor = cosine_factor(alloc, multiplier, cosines, levels)?;
-    Ok(Block { bins, sums, factor })
+    let waves = waves_of_short(alloc, cosines, levels)?;
+    Ok(Block {
+        bins,
+        sums,
+        factor,
+        waves,
+    })
 }

@@ -1,7 +1,7 @@
 ghost use Rattle.std.specs.Prelude.{◌≡◌, ◌≤◌, ◌<◌, ◌+◌, ◌-◌, ◌*◌, ◌/◌, ◌%◌, ◌^◌, ℕ, ℤ, length, slice_index, unsigned_abs};
 ghost use Rattle.prime_field.specs.declared.TheConstants.{PRIME};
 ghost use Rattle.prime_field.specs.Residues.{residue_of};
-ghost use Rattle.model_synthesis.specs.declared.constants.TheConstants.{COSINE_COUNT};
+ghost use Rattle.model_synthesis.specs.declared.constants.TheConstants.{COSINE_COUNT, SCALE};
 ghost use Rattle.model_synthesis.specs.Tables.{wave, first_quarter};
 ghost use Rattle.half_sums.specs.Places.{signed, IsNear, IsBinPlace, IsSumPlace, IsTurn};
 
@@ -100,14 +100,26 @@ pub fn sum_place(size: usize, step: usize) -> Place
     }
 }
 
-/// The residue of the cosine at a step.
-pub fn cosine_residue(cosines: &[u32], size: usize, step: usize) -> u64
+/// The cosine at a step.
+pub fn cosine(cosines: &[u32], size: usize, step: usize) -> i64
     requires size { IsTurn size step }
-    requires cosines { length cosines.now ≡ COSINE_COUNT }
-    ensures value { result ≡ residue_of (wave size (first_quarter cosines.now size) step) }
-    ensures below { result < PRIME }
+    requires count { length cosines.now ≡ COSINE_COUNT }
+    requires small { (i : ℕ) → slice_index cosines.now i ≤ 2 ^ SCALE }
+    ensures value { result ≡ wave size (first_quarter cosines.now size) step }
+    ensures small { unsigned_abs result ≤ 2 ^ SCALE }
 {
     let near = nearest(size, step);
     let value = i64::from(cosines[near.step * (COSINE_COUNT / size)]);
-    from_signed(with_sign(value, near.negative))
+    with_sign(value, near.negative)
+}
+
+/// The residue of the cosine at a step.
+pub fn cosine_residue(cosines: &[u32], size: usize, step: usize) -> u64
+    requires size { IsTurn size step }
+    requires count { length cosines.now ≡ COSINE_COUNT }
+    requires small { (i : ℕ) → slice_index cosines.now i ≤ 2 ^ SCALE }
+    ensures value { result ≡ residue_of (wave size (first_quarter cosines.now size) step) }
+    ensures below { result < PRIME }
+{
+    from_signed(cosine(cosines, size, step))
 }

@@ -30,6 +30,8 @@ enum Bins {
     Least,
     /// The one at k is 104729 k, modulo 2^28 + 1, less 2^27.
     Mixed,
+    /// Every third of these, and zeros between them.
+    Third,
 }
 
 /// What a row shows, the levels of the block, what it is made of, and its sums.
@@ -44,7 +46,7 @@ struct Row {
     all: u64,
 }
 
-const ROWS: [Row; 12] = [
+const ROWS: [Row; 16] = [
     Row {
         name: "a single bin under cosines that are all 1",
         levels: 5,
@@ -136,6 +138,42 @@ const ROWS: [Row; 12] = [
         all: 0x25ad_f2e7_b190_454e,
     },
     Row {
+        name: "128 values, of a third of the bins",
+        levels: 6,
+        cosines: Cosines::Mixed,
+        bins: Bins::Third,
+        first: -2_496_856_301_372_320,
+        last: 12_136_040_337_178_465,
+        all: 0x2af9_82c2_9fe3_0bb0,
+    },
+    Row {
+        name: "1,024 values, of a third of the bins",
+        levels: 9,
+        cosines: Cosines::Mixed,
+        bins: Bins::Third,
+        first: -1_189_920_556_064_760,
+        last: 75_106_696_178_275_173,
+        all: 0x0db6_6ff6_f6f6_ef9b,
+    },
+    Row {
+        name: "the greatest bins of a short block",
+        levels: 7,
+        cosines: Cosines::Greatest,
+        bins: Bins::Greatest,
+        first: 0,
+        last: -144_115_188_075_855_872,
+        all: 0xd4f0_0000_0000_0000,
+    },
+    Row {
+        name: "the least bins of a short block",
+        levels: 7,
+        cosines: Cosines::Greatest,
+        bins: Bins::Least,
+        first: 0,
+        last: 144_115_188_075_855_872,
+        all: 0x2b10_0000_0000_0000,
+    },
+    Row {
         name: "the greatest bins",
         levels: 12,
         cosines: Cosines::Greatest,
@@ -177,7 +215,10 @@ fn bin(bins: Bins, k: u64, count: u64) -> i64
         Bins::Last => { if k == count.wrapping_sub(1) { -3 } else { 0 } }
         Bins::Greatest => 1 << 27,
         Bins::Least => -134_217_728,
-        Bins::Mixed => (k.wrapping_mul(104_729) % 268_435_457) as i64 - 134_217_728,
+        Bins::Third if k % 3 != 0 => 0,
+        Bins::Mixed | Bins::Third => {
+            (k.wrapping_mul(104_729) % 268_435_457) as i64 - 134_217_728
+        }
     };
     value.clamp(-134_217_728, 134_217_728)
 }
@@ -217,15 +258,66 @@ fn all_of(sums: &[i64]) -> u64 {
     all
 }
 
-/// The half sums of a spectrum of 2^levels bins.
-fn put_sums(transforms: &Transforms, levels: u32, bins: &Vec<i64>, sums: &mut [i64])
+/// How half sums are made.
+#[derive(Clone, Copy, Debug)]
+enum Way {
+    AsForAFilm,
+    ByTheProduct,
+    InLanes,
+}
+
+/// The half sums of a spectrum of 2^levels bins. Those of long blocks aren't made in lanes.
+fn put_sums(transforms: &Transforms, way: Way, levels: u32, bins: &Vec<i64>, sums: &mut [i64])
     requires least { 5 ≤ levels }
     requires most { levels ≤ 12 }
     requires size { length bins.now.items ≡ 2 ^ levels }
     requires sums { length sums.old ≡ 2 ^ levels }
     requires bins { AreBins bins.now.items }
 {
-    transforms.half_sums(bins, sums);
+    match way {
+        Way::InLanes if levels <= SHORT_LEVELS => transforms.lane_sums(levels, bins, sums),
+        Way::ByTheProduct => transforms.product_sums(levels, bins, sums),
+        _ => transforms.half_sums(bins, sums),
+    }
+}
+
+/// The cosine of so many steps, by the four quarters of a turn.
+fn cosine_of(cosines: &[u32], size: usize, steps: usize) -> i64 {
+    let t = steps.checked_rem(size.wrapping_mul(4)).unwrap_or(0);
+    let (place, negative) = if t < size {
+        (t, false)
+    } else if t < size.wrapping_mul(2) {
+        (size.wrapping_mul(2).wrapping_sub(t), true)
+    } else if t < size.wrapping_mul(3) {
+        (t.wrapping_sub(size.wrapping_mul(2)), true)
+    } else {
+        (size.wrapping_mul(4).wrapping_sub(t), false)
+    };
+    let place = place.wrapping_mul(8192usize.checked_div(size).unwrap_or(0));
+    let cosine = cosines.get(place).map_or(0, |cosine| i64::from(*cosine));
+    if negative {
+        cosine.wrapping_neg()
+    } else {
+        cosine
+    }
+}
+
+/// The half sum at an index, added up bin by bin.
+fn plain_sum(cosines: &[u32], bins: &[i64], index: usize) -> i64 {
+    let size = bins.len().wrapping_mul(2);
+    let place = if index < size / 4 {
+        index
+    } else {
+        index.wrapping_add(size / 4)
+    };
+    let step = place.wrapping_mul(2).wrapping_add(1).wrapping_add(size / 2);
+    let mut steps = step;
+    let mut sum = 0i64;
+    for bin in bins {
+        sum = sum.wrapping_add(bin.wrapping_mul(cosine_of(cosines, size, steps)));
+        steps = steps.wrapping_add(step).wrapping_add(step);
+    }
+    sum
 }
 
 #[test]
@@ -236,11 +328,18 @@ fn sums_of_rows(rt: HostRuntime) -> Result<(), Fail> {
         assert!(rt; 5 <= levels && levels <= 12, "{name}");
         let transforms = Transforms::new(rt.alloc(), cosine_table(rt.alloc(), row.cosines)?)?;
         let bins = spectrum(rt.alloc(), row.bins, levels)?;
-        let mut sums = vec![in rt.alloc(); 0i64; bins.len()]?;
-        put_sums(&transforms, levels, &bins, &mut sums);
-        assert_eq!(rt; sums.first().copied(), Some(row.first), "{name}");
-        assert_eq!(rt; sums.last().copied(), Some(row.last), "{name}");
-        assert_eq!(rt; all_of(&sums), row.all, "{name}");
+        for way in [Way::AsForAFilm, Way::ByTheProduct, Way::InLanes] {
+            let mut sums = vec![in rt.alloc(); 0i64; bins.len()]?;
+            put_sums(&transforms, way, levels, &bins, &mut sums);
+            assert_eq!(rt; sums.first().copied(), Some(row.first), "{name}, {way:?}");
+            assert_eq!(rt; sums.last().copied(), Some(row.last), "{name}, {way:?}");
+            assert_eq!(rt; all_of(&sums), row.all, "{name}, {way:?}");
+        }
+        let mut plain = Vec::new(rt.alloc());
+        for index in 0..bins.len() {
+            plain.push(plain_sum(transforms.cosines(), &bins, index))?;
+        }
+        assert_eq!(rt; all_of(&plain), row.all, "{name}, bin by bin");
     }
     Ok(())
 }

@@ -1,14 +1,19 @@
 ghost use Rattle.std.specs.Prelude.{◌≡◌, ◌≤◌, ◌*◌, ◌^◌, length, IfOk};
+ghost use Rattle.std.specs.List.{All};
 ghost use Rattle.model_setup.specs.HeaderPackets.{IsBlockSize};
 ghost use Rattle.model_synthesis.specs.Tables.{ConstantTables};
-ghost use Rattle.half_sums.specs.HalfSums.{half_sums};
+ghost use Rattle.half_sums.specs.HalfSums.{IsSum, half_sums};
 ghost use Rattle.half_sums.specs.Places.{AreBins};
 ghost use Rattle.half_sums.specs.Blocks.{AreCosines, size_of};
-ghost use Rattle.half_sums.specs.declared.transforms.TheConstants.{LEAST_LEVELS, MOST_LEVELS, SHORT_LEVELS};
+ghost use Rattle.half_sums.specs.declared.block.TheConstants.{SHORT_LEVELS};
+ghost use Rattle.half_sums.specs.declared.transforms.TheConstants.{LEAST_LEVELS, MOST_LEVELS};
 
-use crate::block::Block;
+use crate::block::{Block, SHORT_LEVELS};
 use crate::exchange::{gather, scatter};
+use crate::lanes::{gather_shares, place_sums, share_sums, whole_magnitude};
 use crate::making::make_block;
+use crate::silence::{is_silent, silence};
+use model_synthesis::SCALE;
 use polynomial_product::Multiplier;
 use std::alloc::{AllocError, Global};
 use std::marker::Model;
@@ -19,12 +24,9 @@ pub const LEAST_LEVELS: u32 = 5;
 /// The largest block has 2^12 bins.
 pub const MOST_LEVELS: u32 = 12;
 
-/// A block is short where it has at most 2^7 bins: it is worth less memory.
-const SHORT_LEVELS: u32 = 7;
-
 /// What the half sums of blocks of each size, from 64 to 8,192 values, are made with: the cosines
 /// of a quarter turn, and what is laid out from them.
-#[derive(Drop)]
+#[derive(Debug, Drop)]
 pub struct Transforms {
     cosines: Vec<u32>,
     multiplier: Multiplier,
@@ -75,8 +77,9 @@ impl Transforms {
         requires spectrum { length spectrum.now ≡ 2 ^ levels }
         requires sums { length sums.old ≡ 2 ^ levels }
         requires bins { AreBins spectrum.now }
-        ensures { (tables : ConstantTables) → tables.cosines ≡ self.now
+        ensures values { (tables : ConstantTables) → tables.cosines ≡ self.now
             → sums.new ≡ half_sums tables (size_of levels) spectrum.now }
+        ensures small { All IsSum sums.new }
     {
         let block = &self.blocks[(levels - LEAST_LEVELS) as usize];
         gather(values, spectrum, &block.bins);
@@ -84,48 +87,90 @@ impl Transforms {
         scatter(sums, values, &block.sums);
     }
 
-    /// The sums of a short block.
-    fn short_sums(&self, levels: u32, spectrum: &[i64], sums: &mut [i64])
+    /// The sums of a short block in lanes, over the memory that is handed in.
+    fn lanes_over(&self, levels: u32, scratch: &mut [u64], spectrum: &[i64], sums: &mut [i64])
+        requires least { LEAST_LEVELS ≤ levels }
+        requires most { levels ≤ SHORT_LEVELS }
+        requires scratch { length scratch.old ≡ 3 * 2 ^ levels }
+        requires spectrum { length spectrum.now ≡ 2 ^ levels }
+        requires sums { length sums.old ≡ 2 ^ levels }
+        requires bins { AreBins spectrum.now }
+        ensures values { (tables : ConstantTables) → tables.cosines ≡ self.now
+            → sums.new ≡ half_sums tables (size_of levels) spectrum.now }
+        ensures small { All IsSum sums.new }
+    {
+        let block = &self.blocks[(levels - LEAST_LEVELS) as usize];
+        let count = spectrum.len();
+        let (magnitudes, rest) = scratch.split_at_mut(count);
+        let (starts, values) = rest.split_at_mut(count);
+        gather_shares(magnitudes, starts, spectrum, &block.bins);
+        share_sums(values, magnitudes, starts, &block.waves);
+        let raised = whole_magnitude(magnitudes) << SCALE;
+        place_sums(sums, values, raised, &block.sums);
+    }
+
+    /// The half sums of a short block of 2^levels bins in lanes, as `half_sums` makes them.
+    pub fn lane_sums(&self, levels: u32, spectrum: &[i64], sums: &mut [i64])
         requires least { LEAST_LEVELS ≤ levels }
         requires most { levels ≤ SHORT_LEVELS }
         requires spectrum { length spectrum.now ≡ 2 ^ levels }
         requires sums { length sums.old ≡ 2 ^ levels }
         requires bins { AreBins spectrum.now }
-        ensures { (tables : ConstantTables) → tables.cosines ≡ self.now
+        ensures values { (tables : ConstantTables) → tables.cosines ≡ self.now
             → sums.new ≡ half_sums tables (size_of levels) spectrum.now }
+        ensures small { All IsSum sums.new }
     {
-        let mut scratch = [0u64; 1 << SHORT_LEVELS];
-        self.sums_over(levels, &mut scratch[..spectrum.len()], spectrum, sums);
+        let mut scratch = [0u64; 3 << SHORT_LEVELS];
+        self.lanes_over(levels, &mut scratch[..3 * spectrum.len()], spectrum, sums);
     }
 
-    /// The sums of any block.
-    fn long_sums(&self, levels: u32, spectrum: &[i64], sums: &mut [i64])
+    /// The half sums of a block of 2^levels bins by one product of polynomials, as `half_sums`
+    /// makes those of a long block.
+    pub fn product_sums(&self, levels: u32, spectrum: &[i64], sums: &mut [i64])
         requires least { LEAST_LEVELS ≤ levels }
         requires most { levels ≤ MOST_LEVELS }
         requires spectrum { length spectrum.now ≡ 2 ^ levels }
         requires sums { length sums.old ≡ 2 ^ levels }
         requires bins { AreBins spectrum.now }
-        ensures { (tables : ConstantTables) → tables.cosines ≡ self.now
+        ensures values { (tables : ConstantTables) → tables.cosines ≡ self.now
             → sums.new ≡ half_sums tables (size_of levels) spectrum.now }
+        ensures small { All IsSum sums.new }
     {
         let mut scratch = [0u64; 1 << MOST_LEVELS];
         self.sums_over(levels, &mut scratch[..spectrum.len()], spectrum, sums);
     }
 
+    /// The sums of a block, zeros or none.
+    fn sounding_sums(&self, spectrum: &[i64], sums: &mut [i64])
+        requires size { IsBlockSize (2 * length spectrum.now) }
+        requires sums { length sums.old ≡ length spectrum.now }
+        requires bins { AreBins spectrum.now }
+        ensures values { (tables : ConstantTables) → tables.cosines ≡ self.now
+            → sums.new ≡ half_sums tables (2 * length spectrum.now) spectrum.now }
+        ensures small { All IsSum sums.new }
+    {
+        let levels = spectrum.len().ilog2();
+        if levels <= SHORT_LEVELS {
+            self.lane_sums(levels, spectrum, sums);
+        } else {
+            self.product_sums(levels, spectrum, sums);
+        }
+    }
+
     /// The sums for the first and the third quarter of a block, before their division, from its
-    /// spectrum: the bins are in units of 2^-20, and the sums in units of 2^-43.
+    /// spectrum: the bins are in units of 2^-20, and the sums in units of 2^-43, each within 2^62.
     pub fn half_sums(&self, spectrum: &[i64], sums: &mut [i64])
         requires size { IsBlockSize (2 * length spectrum.now) }
         requires sums { length sums.old ≡ length spectrum.now }
         requires bins { AreBins spectrum.now }
-        ensures { (tables : ConstantTables) → tables.cosines ≡ self.now
+        ensures values { (tables : ConstantTables) → tables.cosines ≡ self.now
             → sums.new ≡ half_sums tables (2 * length spectrum.now) spectrum.now }
+        ensures small { All IsSum sums.new }
     {
-        let levels = spectrum.len().ilog2();
-        if levels <= SHORT_LEVELS {
-            self.short_sums(levels, spectrum, sums);
+        if is_silent(spectrum) {
+            silence(sums);
         } else {
-            self.long_sums(levels, spectrum, sums);
+            self.sounding_sums(spectrum, sums);
         }
     }
 }

@@ -40,7 +40,7 @@ fn multiply_places(values: &mut [u64], factors: &[u64])
 
 /// Multiplies polynomials of 2^2 to 2^12 coefficients, which are residues modulo the prime, modulo
 /// x^n + 1 for n coefficients. It holds the roots that all sizes share.
-#[derive(Drop)]
+#[derive(Debug, Drop)]
 pub struct Multiplier {
     roots: Vec<u64>,
     inverses: Vec<u64>,

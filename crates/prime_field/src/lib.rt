@@ -49,6 +49,18 @@ pub fn multiply(a: u64, b: u64) -> u64
     reduce(a as u128 * b as u128)
 }
 
+/// A difference that would be below zero, of numbers within half a word. It is a call of its own so
+/// that it costs nothing where it isn't made, since it seldom is.
+#[cold]
+#[inline(never)]
+fn subtract_small(a: u64, b: u64) -> u64
+    requires a { a < b }
+    requires b { b < 2 ^ 32 }
+    ensures { result ≡ a + (PRIME - b) }
+{
+    a + (PRIME - b)
+}
+
 /// The residue of a double word: in it 2^64 counts as 2^32 - 1, and 2^96 as -1.
 #[inline]
 fn reduce(x: u128) -> u64
@@ -62,7 +74,7 @@ fn reduce(x: u128) -> u64
     let folded = if low >= top {
         low - top
     } else {
-        low + (PRIME - top)
+        subtract_small(low, top)
     };
     let product = middle * HALF_WORD;
     let room = PRIME - product;

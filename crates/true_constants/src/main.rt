@@ -1,6 +1,10 @@
-//! Reads the true constants, and prints some of them: the first, the last and some between.
+//! Reads the true constants, and prints some of them: the first, the last and some between. Then it
+//! prints a number for the half sums of a block of each size, by each way to make them.
 #![tactic(auto)]
 
+mod sums;
+
+use crate::sums::print_all_sums;
 use constants_file::Constants;
 use std::{fs, io};
 
@@ -55,5 +59,5 @@ fn main(rt: HostRuntime) -> io::Result<()> {
     for t in STEPS {
         print_cosine(&rt, &constants, 13, t)?;
     }
-    Ok(())
+    print_all_sums(&rt, constants.transforms())
 }

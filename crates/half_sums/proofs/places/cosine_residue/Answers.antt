@@ -1,22 +1,9 @@
-use Rattle.std.proofs.Common.{◌≡◌, ◌∙◌, ap, sym, refl, rules, to_z, of_z, w64}
+use Rattle.std.proofs.Common.{◌∙◌, ap, rules, w64}
 use Rattle.std.proofs.lemmas.Int.{to_z-of_z}
-use Rattle.std.proofs.Math.Nat.{mul-one}
 use Rattle.prime_field.specs.Residues.{residue_of}
-use Rattle.model_synthesis.specs.Tables.{wave, first_quarter}
-use Rattle.model_synthesis.proofs.Waves.{wave_first}
-use Rattle.half_sums.specs.Places.{signed}
 use Rattle.half_sums.proofs.places.cosine_residue.Goals as goal
 
 pub returns-clause-value : goal.returns-clause-value
 returns-clause-value c =
-    let near = c.nearest-near.result in
-    let size = c.args.size in
-    let table = first_quarter c.args.cosines.now size in
-    let here =
-    ap (wave size table) (sym (mul-one c.args.step))
-    ∙ (c.nearest-near.ensures.same table 1 refl
-    ∙ ap (signed near.negative) (ap (wave size table) (mul-one near.step) ∙ wave_first size table near.step c.nearest-near.ensures.within)) in
-    let read : to_z w64 (of_z w64 c.from-value.result) ≡ c.from-value.result = to_z-of_z w64 c.from-value.result (search rules) in
-    let passed : to_z w64 (of_z w64 c.with_sign.result) ≡ c.with_sign.result = to_z-of_z w64 c.with_sign.result (search rules) in
     c.from_signed.ensures.value
-    ∙ ap residue_of (passed ∙ (c.with_sign.ensures ∙ (ap (signed near.negative) (read ∙ c.from-value.ensures) ∙ sym here)))
+    ∙ ap residue_of (to_z-of_z w64 c.cosine.result (search rules) ∙ c.cosine.ensures.value)

@@ -4,4 +4,4 @@ use Rattle.half_sums.proofs.tests.put_sums.Goals as goal
 
 pub half_sums-requires-clause-size : goal.half_sums-requires-clause-size
 half_sums-requires-clause-size c =
-    block_size_from (length c.deref.result.now) c.args.levels (ap length c.deref.ensures.value ∙ c.requires.size) c.requires.least c.requires.most
+    block_size_from (length c.deref-in_default.result.now) c.args.levels (ap length c.deref-in_default.ensures.value ∙ c.requires.size) c.requires.least c.requires.most

@@ -11,7 +11,7 @@ is_exponent c = exponent_of c.args.block c.ilog2.result c.requires.block c.ilog2
 is_turn : (c : goal.After-items) → c.items.result.now ≡ turn_of c.args.self.now.cosines c.args.block
 is_turn c =
     c.items.ensures
-    ∙ (turn_at c.self.inside.cosines.items c.args.block c.ilog2.result c.index.result.now
+    ∙ (turn_at c.self.inside.transforms c.args.block c.ilog2.result c.index.result.now
     (exponent_of c.args.block c.ilog2.result c.requires.block c.ilog2.ensures.power_le c.ilog2.ensures.next_power_gt)
     (c.index.ensures ∙ ap (λ (turns : List (List ℤ)). get_or turns (c.ilog2.result - 6) c.index.result.now) c.self.invariant.1)
     ∙ ap (λ (t : ConstantTables). turn_of t.cosines c.args.block) c.self.view_is)
@@ -22,7 +22,7 @@ overflow_sub-ilog2 c = (is_exponent c).least
 pub index-requires : goal.index-requires
 index-requires c =
     let exponent = is_exponent c in
-    let count : length c.self.inside.turns.items ≡ 8 = ap length c.self.invariant.1 ∙ length-turns_of c.self.inside.cosines.items in
+    let count : length c.self.inside.turns.items ≡ 8 = ap length c.self.invariant.1 ∙ length-turns_of c.self.inside.transforms in
     omega arith
 
 pub returns-clause-values : goal.returns-clause-values

@@ -1,52 +1,14 @@
-use Rattle.std.proofs.Common.{◌≡◌, ◌*◌, ◌∙◌, sym, subst, length}
-use Rattle.half_sums.specs.HalfSums.{half_sums}
-use Rattle.half_sums.proofs.LaidOut.{HasLevels, has_levels}
+use Rattle.std.proofs.Common.{◌≡◌, ◌*◌, ◌/◌, length, pos, subst, sym, arith}
+use Rattle.std.proofs.lemmas.List.Elements.{All-from_get_or}
+use Rattle.half_sums.specs.HalfSums.{IsSum}
+use Rattle.half_sums.proofs.SilentSums.{silent_sums}
 use Rattle.half_sums.proofs.transforms.Transforms.half_sums.Goals as goal
 
-pub short_sums-requires-clause-least : goal.short_sums-requires-clause-least
-short_sums-requires-clause-least c =
-    let is : HasLevels (length c.args.spectrum.now) c.ilog2-levels.result =
-    has_levels (length c.args.spectrum.now) c.ilog2-levels.result c.requires.size c.ilog2-levels.ensures.power_le c.ilog2-levels.ensures.next_power_gt in
-    is.least
+pub returns-then-is_silent-clause-values : goal.returns-then-is_silent-clause-values
+returns-then-is_silent-clause-values c tables same =
+    let count : length c.silence.new.sums ≡ 2 * length c.args.spectrum.now / 2 = omega arith in
+    silent_sums tables (2 * length c.args.spectrum.now) c.args.spectrum.now (c.is_silent.ensures c.if-is_silent.true) c.silence.new.sums count c.silence.ensures
 
-pub short_sums-requires-clause-spectrum : goal.short_sums-requires-clause-spectrum
-short_sums-requires-clause-spectrum c =
-    let is : HasLevels (length c.args.spectrum.now) c.ilog2-levels.result =
-    has_levels (length c.args.spectrum.now) c.ilog2-levels.result c.requires.size c.ilog2-levels.ensures.power_le c.ilog2-levels.ensures.next_power_gt in
-    is.is_power
-
-pub short_sums-requires-clause-sums : goal.short_sums-requires-clause-sums
-short_sums-requires-clause-sums c =
-    let is : HasLevels (length c.args.spectrum.now) c.ilog2-levels.result =
-    has_levels (length c.args.spectrum.now) c.ilog2-levels.result c.requires.size c.ilog2-levels.ensures.power_le c.ilog2-levels.ensures.next_power_gt in
-    c.requires.sums ∙ is.is_power
-
-pub long_sums-requires-clause-most : goal.long_sums-requires-clause-most
-long_sums-requires-clause-most c =
-    let is : HasLevels (length c.args.spectrum.now) c.ilog2-levels.result =
-    has_levels (length c.args.spectrum.now) c.ilog2-levels.result c.requires.size c.ilog2-levels.ensures.power_le c.ilog2-levels.ensures.next_power_gt in
-    is.most
-
-pub long_sums-requires-clause-spectrum : goal.long_sums-requires-clause-spectrum
-long_sums-requires-clause-spectrum c =
-    let is : HasLevels (length c.args.spectrum.now) c.ilog2-levels.result =
-    has_levels (length c.args.spectrum.now) c.ilog2-levels.result c.requires.size c.ilog2-levels.ensures.power_le c.ilog2-levels.ensures.next_power_gt in
-    is.is_power
-
-pub long_sums-requires-clause-sums : goal.long_sums-requires-clause-sums
-long_sums-requires-clause-sums c =
-    let is : HasLevels (length c.args.spectrum.now) c.ilog2-levels.result =
-    has_levels (length c.args.spectrum.now) c.ilog2-levels.result c.requires.size c.ilog2-levels.ensures.power_le c.ilog2-levels.ensures.next_power_gt in
-    c.requires.sums ∙ is.is_power
-
-pub returns-then-levels-le-SHORT_LEVELS : goal.returns-then-levels-le-SHORT_LEVELS
-returns-then-levels-le-SHORT_LEVELS c tables same =
-    let is : HasLevels (length c.args.spectrum.now) c.ilog2-levels.result =
-    has_levels (length c.args.spectrum.now) c.ilog2-levels.result c.requires.size c.ilog2-levels.ensures.power_le c.ilog2-levels.ensures.next_power_gt in
-    subst (λ n. c.short_sums.new.sums ≡ half_sums tables (2 * n) c.args.spectrum.now) (sym is.is_power) (c.short_sums.ensures tables same)
-
-pub returns-else-levels-le-SHORT_LEVELS : goal.returns-else-levels-le-SHORT_LEVELS
-returns-else-levels-le-SHORT_LEVELS c tables same =
-    let is : HasLevels (length c.args.spectrum.now) c.ilog2-levels.result =
-    has_levels (length c.args.spectrum.now) c.ilog2-levels.result c.requires.size c.ilog2-levels.ensures.power_le c.ilog2-levels.ensures.next_power_gt in
-    subst (λ n. c.long_sums.new.sums ≡ half_sums tables (2 * n) c.args.spectrum.now) (sym is.is_power) (c.long_sums.ensures tables same)
+pub returns-then-is_silent-clause-small : goal.returns-then-is_silent-clause-small
+returns-then-is_silent-clause-small c =
+    All-from_get_or IsSum c.silence.new.sums (pos 0) (λ i h. subst IsSum (sym (c.silence.ensures i)) (omega arith))

@@ -1,9 +1,11 @@
-use Rattle.std.proofs.Common.{◌≡◌, ◌-◌, ◌^◌, ◌∙◌, ap, sym, subst, List, length, slice_get, arith}
+use Rattle.std.proofs.Common.{◌≡◌, ◌-◌, ◌*◌, ◌^◌, ◌≤◌, ◌∙◌, ap, sym, subst, List, length, slice_get, arith}
 use Rattle.half_sums.specs.declared.places.Place.{Place}
 use Rattle.half_sums.specs.declared.transforms.TheConstants.{LEAST_LEVELS}
 use Rattle.half_sums.specs.Blocks.{AreCosines, IsBlockFor, cosine_list}
 use Rattle.half_sums.proofs.LaidOut.{block_at, length-factor_of}
 use Rattle.half_sums.proofs.SumsAtPlaces.{power_sum, power_sum_small, products_are, target, places_agree, sums_are}
+use Rattle.std.proofs.Math.Pow.{pow_mono}
+use Rattle.half_sums.proofs.SmallSums.{sums_small}
 use Rattle.half_sums.proofs.transforms.Transforms.sums_over.Goals as goal
 
 pub multiply-requires-clause-factor : goal.multiply-requires-clause-factor
@@ -23,8 +25,8 @@ scatter-requires-clause-index c a p got =
     let at = is.sums.each a p (ap (λ (l : List Place). slice_get l a) (sym c.deref-3.ensures.value) ∙ got) in
     omega (arith, at.within)
 
-pub returns : goal.returns
-returns c tables same =
+pub returns-clause-values : goal.returns-clause-values
+returns-clause-values c tables same =
     let levels = c.args.levels in
     let block = c.index-block.result.now in
     let spectrum = c.args.spectrum.now in
@@ -42,3 +44,8 @@ returns c tables same =
     (λ i below. (products i (omega arith), power_sum_small levels tables block right is spectrum bins i))
     (λ i q here. places_agree levels tables block right is spectrum bins i q (ap (λ (l : List Place). slice_get l i) (sym c.deref-3.ensures.value) ∙ here))
     a p (ap (λ (l : List Place). slice_get l a) c.deref-3.ensures.value ∙ got))
+
+pub returns-clause-small : goal.returns-clause-small
+returns-clause-small c =
+    let most : 2 ^ c.args.levels ≤ 2 ^ 12 = pow_mono c.requires.most in
+    sums_small c.self.inside.cosines.items c.args.self.now c.scatter.new.sums c.args.spectrum.now (2 * 2 ^ c.args.levels) c.self.invariant.right c.self.view_is c.requires.bins (omega arith) (returns-clause-values c)
