@@ -6,8 +6,8 @@ use Rattle.model_ogg.specs.Entries.{StreamItem, packet, lost}
 use Rattle.model_setup.specs.declared.setup.PacketHead.{PacketHead}
 use Rattle.model_setup.specs.declared.setup.PacketHead.TheVariants as heads
 use Rattle.model_setup.specs.declared.head.IdentFields.{IdentFields}
-use Rattle.model_setup.specs.SetupPacket.{Mode, SetupFields}
-use Rattle.model_setup.specs.AudioHead.{head_of}
+use Rattle.model_setup.specs.SetupPacket.{SetupFields}
+use Rattle.model_setup.specs.AudioHead.{long_flags_of, head_of}
 use Rattle.model_line.specs.declared.row.RowKind.{RowKind}
 use Rattle.model_line.specs.declared.row.RowKind.TheVariants as kinds
 use Rattle.model_line.specs.declared.row.Row.{Row}
@@ -27,7 +27,7 @@ kind_by_head long_flags (heads.Block mode prev next) =
 
 -- the block flag of each mode of a setup: whether its blocks are long
 abbrev pub block_flags : SetupFields → List Bool
-block_flags setup = map (λ (mode : Mode). mode.long) setup.modes
+block_flags setup = long_flags_of setup.modes
 
 -- the row of an entry
 abbrev pub row_of : List Bool → StreamItem → Row

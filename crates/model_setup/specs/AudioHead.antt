@@ -1,10 +1,15 @@
 -- The head of an audio packet (Vorbis I, section 4.3.1).
-use Rattle.std.specs.Prelude.{ℕ, ◌-◌, List, length, Option, Some, None, Result, Ok, Err, Bool, false, ◌==◌, nat_lt, if◌then◌else◌, slice_index_or}
+use Rattle.std.specs.Prelude.{ℕ, ◌-◌, List, length, map, Option, Some, None, Result, Ok, Err, Bool, false, ◌==◌, nat_lt, if◌then◌else◌, slice_index_or}
 use Rattle.model_bits.specs.Bits.{bits_of, take_bits}
 use Rattle.model_bits.specs.Reading.{PacketReading, ◌>>=◌, ◌>>◌, give, require, packet_bits}
 use Rattle.model_setup.specs.declared.setup.PacketHead.{PacketHead}
 use Rattle.model_setup.specs.declared.setup.PacketHead.TheVariants.{Skip, Bad, Block}
 use Rattle.model_setup.specs.BookReading.{ilog}
+use Rattle.model_setup.specs.SetupPacket.{Mode}
+
+-- the block flag of each mode: whether its blocks are long
+abbrev pub long_flags_of : List Mode → List Bool
+long_flags_of modes = map (λ (mode : Mode). mode.long) modes
 
 -- the window flags of a long block; a short block has none
 unfoldable pub window_flags_at : Bool → PacketReading (Bool × Bool)

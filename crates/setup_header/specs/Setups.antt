@@ -1,11 +1,8 @@
 -- What a setup lends, and what its private parts keep.
-use Rattle.std.specs.Prelude.{◌≡◌, ℕ, ◌<◌, List, Option, option_and_then, Bool, map, slice_get}
+use Rattle.std.specs.Prelude.{◌≡◌, ℕ, ◌<◌, List, Option, option_and_then, Bool, slice_get}
 use Rattle.std.specs.List.{All}
 use Rattle.model_setup.specs.SetupPacket.{Mapping, Mode, SetupFields}
-
--- the block flag of each mode
-abbrev pub long_flags_of : List Mode → List Bool
-long_flags_of modes = map (λ (mode : Mode). mode.long) modes
+use Rattle.model_setup.specs.AudioHead.{long_flags_of}
 
 -- the mapping of the mode of a number, where there is that mode
 abbrev pub mapping_of : SetupFields → ℕ → Option Mapping

@@ -16,8 +16,5 @@ mod time_transforms;
 pub use laws::head_goes_by_places;
 pub use mapping::{Coupling, Mapping, Submap};
 pub use model_setup::{PacketHead, SetupCause, SetupFault};
-pub use packet_head::head;
+pub use packet_head::{block_head, head};
 pub use setup::Setup;
-
-#[cfg(test)]
-mod tests;

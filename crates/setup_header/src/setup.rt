@@ -2,7 +2,8 @@ ghost use Rattle.std.specs.Prelude.{◌≡◌, ◌≤◌, ◌<◌, length, Some,
 ghost use Rattle.model_bits.specs.Reading.{leaving};
 ghost use Rattle.sequence.specs.Answers.{Answers};
 ghost use Rattle.model_setup.specs.SetupPacket.{framing_at, setup_at, setup_of, IsSetup};
-ghost use Rattle.setup_header.specs.Setups.{long_flags_of, mapping_of};
+ghost use Rattle.model_setup.specs.AudioHead.{long_flags_of};
+ghost use Rattle.setup_header.specs.Setups.{mapping_of};
 
 use crate::faults::bad;
 use crate::fields::read_field;

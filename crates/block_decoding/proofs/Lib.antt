@@ -1,0 +1,9 @@
+pub mod Items
+pub mod CurveSteps
+pub mod Puts
+pub mod ReadLines
+pub mod EachChannel
+pub mod PartSteps
+pub mod SubmapSteps
+pub mod HeadSteps
+pub mod ModeSteps

@@ -1,0 +1,3 @@
+pub mod PacketParts
+pub mod PacketBlocks
+pub mod FilmBlocks
