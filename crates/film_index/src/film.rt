@@ -6,6 +6,7 @@ ghost use Rattle.model_line.specs.Origins.{entries_of, number_behind, numbered_e
 ghost use Rattle.model_line.specs.Index.{facts_of, facts_from, all_behind, Indexes};
 ghost use Rattle.film_index.specs.Bounds.{FitsLink, FitsIndex, rows_in};
 ghost use Rattle.film_index.specs.Listings.{IsListing, HasRoom, HasGrown};
+ghost use Rattle.film_index.specs.Items.{AreIndexItems};
 
 use crate::listing::Listing;
 use crate::walk::Sizes;
@@ -33,6 +34,7 @@ impl Model for Index {
     ghost use Rattle.model_line.specs.Decode.{frame_count};
     ghost use Rattle.model_line.specs.Origins.{starts_from, listed};
     ghost use Rattle.model_line.specs.Index.{Indexed};
+    ghost use Rattle.film_index.specs.Items.{AreIndexItems};
 
     ghost Value = { Indexed };
 
@@ -44,7 +46,12 @@ impl Model for Index {
 
     ghost invariant = { λ a. (a.starts.items ≡ starts_from 0 a.items.items)
         × (a.total ≡ frame_count (listed a.items.items))
-        × (length a.links.items ≤ MOST_LINKS) };
+        × (length a.links.items ≤ MOST_LINKS)
+        × AreIndexItems (record {
+          items = a.items.items;
+          links = a.links.items;
+          blocks = a.blocks;
+        }) };
 }
 
 /// How many entries links have.
@@ -100,6 +107,7 @@ fn add_links(
         ++ line origins 0 (numbered_links listing.old.blocks (map entries_of links.now))) }
     ensures blocks { OnOk result
         (listing.new.blocks ≡ all_behind listing.old.blocks (map entries_of links.now)) }
+    ensures room { OnOk result (HasRoom listing.new 0) }
 {
     let mut facts = Vec::new(alloc);
     for (number, link) in links.iter().enumerate() {
@@ -129,7 +137,8 @@ impl Index {
 
     /// The line's frames, as spans, and its gaps, in order.
     pub fn items(&self) -> &[Item]
-        ensures { result.now ≡ self.now.items }
+        ensures value { result.now ≡ self.now.items }
+        ensures right { AreIndexItems self.now }
     {
         &self.items
     }

@@ -1,5 +1,5 @@
-//! What a player reads and writes: files by their names, streams that are written to, and gates
-//! that are called before each turn.
+//! What a player reads and writes: files by their names, streams that are written to, gates that
+//! are called before each turn, and counts of steps.
 #![tactic(auto)]
 
 mod clean;
@@ -10,6 +10,7 @@ mod memory_sink;
 mod shelf;
 mod sink;
 mod std_sink;
+mod steps;
 #[cfg(test)]
 mod tests;
 
@@ -21,3 +22,4 @@ pub use memory_sink::MemSink;
 pub use shelf::{FetchFault, Shelf};
 pub use sink::{PutFault, Sink};
 pub use std_sink::StdSink;
+pub use steps::Steps;

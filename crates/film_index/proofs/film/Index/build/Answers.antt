@@ -4,7 +4,19 @@ use Rattle.film_index.proofs.ListSteps.{all_within}
 use Rattle.film_index.proofs.film.Index.build.Goals as goal
 
 pub invariant_of-result : goal.invariant_of-result
-invariant_of-result c = (c.in_ok-facts.ensures.right.starts, c.in_ok-facts.ensures.right.total, omega (arith, ap length c.in_ok-facts.ensures.facts, length-facts 0 c.deref-2.result.now, ap length c.deref-2.ensures.value, c.requires.count))
+invariant_of-result c = (
+  c.in_ok-facts.ensures.right.starts,
+  c.in_ok-facts.ensures.right.total,
+  omega (arith, ap length c.in_ok-facts.ensures.facts, length-facts 0 c.deref-2.result.now, ap length c.deref-2.ensures.value, c.requires.count),
+  record {
+    starts = c.in_ok-facts.ensures.right.started;
+    frames = c.in_ok-facts.ensures.right.frames;
+    rising = c.in_ok-facts.ensures.right.rising;
+    within = all_within _ _ c.in_ok-facts.ensures.right.below;
+    fits = omega (arith, c.in_ok-facts.ensures.right.total, c.in_ok-facts.ensures.room.total);
+    few = omega (arith, c.in_ok-facts.ensures.room.blocks);
+  },
+)
 
 pub returns : goal.returns
 returns c = record {

@@ -1,0 +1,9 @@
+pub mod Parts
+pub mod Places
+pub mod RunLaws
+pub mod ReadLaws
+pub mod Counting
+pub mod Standing
+pub mod Shapes
+pub mod ByOrigins
+pub mod Examples
