@@ -1,22 +1,26 @@
 -- The link of a block, by how many links end before it.
-use Rattle.std.proofs.Common.{◌≡◌, ℕ, zero, suc, ◌+◌, ◌-◌, ◌<◌, ◌≤◌, List, [], ◌∷◌, ◌++◌, length, map, get_or, leb, true, false, Bool, Option, Some, None, option_map, refl, sym, ap, ◌∙◌, arith, length-append}
-use Rattle.std.specs.List.{All, AllWithin, slice_get, flat_map}
+use Rattle.std.proofs.Common.{◌≡◌, ℕ, zero, suc, ◌+◌, ◌-◌, ◌<◌, ◌≤◌, List, [], ◌∷◌, ◌++◌, length, map, get_or, leb, true, false, Bool, Option, Some, refl, sym, ap, ◌∙◌, arith, length-append}
+use Rattle.std.specs.List.{All, slice_get, flat_map}
+use Rattle.std.specs.Option.{option_map_or}
 use Rattle.std.specs.List.Sorted.{IsNonDecreasingBy, IsPartitionPoint}
 use Rattle.std.proofs.lemmas.List.{length-map}
 use Rattle.std.proofs.lemmas.List.Elements.{All-nil, All-cons, All-append}
-use Rattle.std.proofs.lemmas.Option.{slice_get-get_or}
+use Rattle.std.proofs.lemmas.Option.{slice_get-get_or, get_or_from_slice_get}
 use Rattle.model_ogg.specs.Entries.{StreamItem, packet, lost}
 use Rattle.model_setup.specs.declared.setup.PacketHead.{PacketHead}
 use Rattle.model_setup.specs.declared.setup.PacketHead.TheVariants as heads
 use Rattle.model_setup.specs.AudioHead.{head_of}
 use Rattle.model_line.specs.Decode.{Kind, missing, skipped, decoded, LinkEntry}
 use Rattle.model_line.specs.Origins.{entries_of, number_after, number_behind}
-use Rattle.model_line.specs.Acceptance.{FilmLink}
+use Rattle.model_synthesis.specs.Tables.{ConstantTables}
+use Rattle.model_line.specs.Acceptance.{FilmLink, no_fields, no_setup}
 use Rattle.model_line.specs.PacketRows.{BlockPacket, block_flags, rows_of, sized_links, block_by_head, block_packet, link_block_packets, block_packets_from}
 use Rattle.model_line.proofs.BlockPackets.{link_behind}
+use Rattle.model_block.specs.FilmBlocks.{block_in_link, block_of_packet, film_block}
 use Rattle.film_blocks.specs.declared.held.HeldLink.{HeldLink}
 use Rattle.film_blocks.specs.Held.{link_in, links_in}
-use Rattle.film_blocks.specs.Ends.{ends_from}
+use Rattle.film_blocks.specs.Ends.{ends_from, first_behind, EndBefore}
+use Rattle.film_blocks.specs.KeyedBlocks.{link_of_block, link_block}
 
 -- ---- the packets of a link have its number
 
@@ -51,32 +55,39 @@ slice_get-behind : {X : Type 0} (xs ys : List X) (k : ℕ) → slice_get (xs ++ 
 slice_get-behind [] ys k = let e : 0 + k ≡ k = omega arith in rw e refl
 slice_get-behind (x ∷ xs) ys k = let e : suc (length xs) + k ≡ suc (length xs + k) = omega arith in rw e (slice_get-behind xs ys k)
 
-abbrev link_at : List BlockPacket → ℕ → Option ℕ
-link_at bs k = option_map (λ (b : BlockPacket). b.link) (slice_get bs k)
-
-link_of_all : (number : ℕ) (bs : List BlockPacket) (k : ℕ) → All (IsOf number) bs → k < length bs → link_at bs k ≡ Some number
-link_of_all number bs k all lt =
-    let d : BlockPacket = record { link = number; bytes = [] } in
-    rw (slice_get-get_or bs k d lt) (ap Some (all k d lt))
-
 -- ---- the link of a block
 
--- so many links end before block `at`, and the others behind it
-pub record EndBefore (at count : ℕ) (ends : List ℕ) : Type 0 where
-  pub before : AllWithin (λ (end : ℕ). end ≤ at) ends 0 count
-  pub behind : AllWithin (λ (end : ℕ). at < end) ends count (length ends)
+first_step : (n end count : ℕ) (ends : List ℕ) → first_behind n (end ∷ ends) (suc count) ≡ first_behind end ends count
+first_step n end zero ends = refl
+first_step n end (suc count) ends = refl
 
-link_found : (i n k at count : ℕ) (links : List FilmLink) → at ≡ n + k → EndBefore at count (ends_from n (sized_links links)) → k < length (block_packets_from i links)
-    → link_at (block_packets_from i links) k ≡ Some (i + count)
+-- the number of the first block of a link, where the first of them all has this number
+abbrev first_in : ℕ → List FilmLink → ℕ → ℕ
+first_in n links count = first_behind n (ends_from n (sized_links links)) count
+
+-- packet k of those of these links is one of the link at this place
+record IsIn (i n k at count : ℕ) (links : List FilmLink) (d : FilmLink) : Type 0 where
+  within : count < length links
+  behind : first_in n links count ≤ at
+  few : at - first_in n links count < length (link_block_packets (i + count) (get_or links count d))
+  same : slice_get (block_packets_from i links) k ≡ slice_get (link_block_packets (i + count) (get_or links count d)) (at - first_in n links count)
+
+link_found : (i n k at count : ℕ) (links : List FilmLink) (d : FilmLink) → at ≡ n + k → EndBefore at count (ends_from n (sized_links links)) → k < length (block_packets_from i links) → IsIn i n k at count links d
 unfolding ends_from block_packets_from
-link_found i n k at count [] at-is h lt = absurd (omega (arith, lt))
-link_found i n k at zero (link ∷ links) at-is h lt =
+link_found i n k at count [] d at-is h lt = absurd (omega (arith, lt))
+link_found i n k at zero (link ∷ links) d at-is h lt =
     let mine = link_block_packets i link in
     let behind = h.behind 0 0 (omega arith) (omega arith) in
     let few : k < length mine = omega (arith, behind, link_behind n i link) in
-    let e : i + 0 ≡ i = omega arith in
-    rw e (ap (option_map (λ (b : BlockPacket). b.link)) (slice_get-front mine (block_packets_from (i + 1) links) k few) ∙ link_of_all i mine k (of_link i link) few)
-link_found i n k at (suc count) (link ∷ links) at-is h lt =
+    let first : i + 0 ≡ i = omega arith in
+    let place : at - n ≡ k = omega arith in
+    record {
+      within = omega arith;
+      behind = omega arith;
+      few = rw (first, place) few;
+      same = rw (first, place) (slice_get-front mine (block_packets_from (i + 1) links) k few);
+    }
+link_found i n k at (suc count) (link ∷ links) d at-is h lt =
     let mine = link_block_packets i link in
     let others = block_packets_from (i + 1) links in
     let end = number_behind n (entries_of (rows_of link)) in
@@ -90,11 +101,84 @@ link_found i n k at (suc count) (link ∷ links) at-is h lt =
       before = λ j d low high. h.before (suc j) d (omega arith) (omega (arith, high));
       behind = λ j d low high. h.behind (suc j) d (omega (arith, low)) (omega (arith, high));
     } in
-    let e : i + suc count ≡ i + 1 + count = omega arith in
-    ap (link_at (mine ++ others)) place ∙ ap (option_map (λ (b : BlockPacket). b.link)) (slice_get-behind mine others rest) ∙ link_found (i + 1) end rest at count links at-is' h' few ∙ ap Some (sym e)
+    let it = link_found (i + 1) end rest at count links d at-is' h' few in
+    let step = first_step n end count (ends_from end (sized_links links)) in
+    let number : i + suc count ≡ i + 1 + count = omega arith in
+    record {
+      within = omega (arith, it.within);
+      behind = rw step it.behind;
+      few = rw (step, number) it.few;
+      same = rw (step, number) (ap (slice_get (mine ++ others)) place ∙ slice_get-behind mine others rest ∙ it.same);
+    }
 
-pub block_is_of : (k count : ℕ) (links : List FilmLink) → EndBefore k count (ends_from 0 (sized_links links)) → k < length (block_packets_from 0 links) → link_at (block_packets_from 0 links) k ≡ Some count
-block_is_of k count links h lt = link_found 0 0 k k count links (omega arith) h lt ∙ ap Some (omega arith)
+-- block k of a film is a block of its link
+pub record BlockIn (k count : ℕ) (links : List FilmLink) (link : FilmLink) : Type 0 where
+  pub at : slice_get links count ≡ Some link
+  pub few : k - first_in 0 links count < length (link_block_packets count link)
+  pub same : slice_get (block_packets_from 0 links) k ≡ slice_get (link_block_packets count link) (k - first_in 0 links count)
+
+pub block_in : (k count : ℕ) (links : List FilmLink) (link : FilmLink) → slice_get links count ≡ Some link → EndBefore k count (ends_from 0 (sized_links links)) → k < length (block_packets_from 0 links) → BlockIn k count links link
+block_in k count links link at h lt =
+    let it = link_found 0 0 k k count links link (omega arith) h lt in
+    let is : get_or links count link ≡ link = get_or_from_slice_get links count link link at in
+    let number : 0 + count ≡ count = omega arith in
+    record {
+      at = at;
+      few = rw (number, is) at it.few;
+      same = rw (number, is) at it.same;
+    }
+
+-- stands for a link where there is none
+no_link : FilmLink
+no_link = record {
+  counts = record { serial = 0; pages = 0; packets = 0; lost = 0 };
+  ident = no_fields;
+  setup = no_setup;
+  entries = [];
+}
+
+pub link_within : (k count : ℕ) (links : List FilmLink) → EndBefore k count (ends_from 0 (sized_links links)) → k < length (block_packets_from 0 links) → count < length links
+link_within k count links h lt = (link_found 0 0 k k count links no_link (omega arith) h lt).within
+
+pub first_within : (k count : ℕ) (links : List FilmLink) → EndBefore k count (ends_from 0 (sized_links links)) → k < length (block_packets_from 0 links) → first_in 0 links count ≤ k
+first_within k count links h lt = (link_found 0 0 k k count links no_link (omega arith) h lt).behind
+
+-- ---- a block by its link
+
+-- a packet of a link, and its bytes
+record PacketIn (count : ℕ) (packets : List BlockPacket) (j : ℕ) : Type 0 where
+  bytes : List ℕ
+  at : slice_get packets j ≡ Some (record { link = count; bytes = bytes })
+
+packet_in : (count : ℕ) (link : FilmLink) (j : ℕ) → j < length (link_block_packets count link) → PacketIn count (link_block_packets count link) j
+packet_in count link j lt =
+    let packets = link_block_packets count link in
+    let d : BlockPacket = record { link = count; bytes = [] } in
+    let it = get_or packets j d in
+    let number : it.link ≡ count = of_link count link j d lt in
+    record {
+      bytes = it.bytes;
+      at = slice_get-get_or packets j d lt ∙ ap (λ (n : ℕ). Some (record { link = n; bytes = it.bytes })) number;
+    }
+
+pub link_is : (k count : ℕ) (links : List FilmLink) (link : FilmLink) → BlockIn k count links link → link_of_block links k ≡ count
+unfolding link_of_block
+link_is k count links link h =
+    let packet = packet_in count link (k - first_in 0 links count) h.few in
+    ap (λ (found : Option BlockPacket). option_map_or (λ (p : BlockPacket). p.link) found 0) (h.same ∙ packet.at)
+
+pub found_link : (k count : ℕ) (links : List FilmLink) → EndBefore k count (ends_from 0 (sized_links links)) → k < length (block_packets_from 0 links) → link_of_block links k ≡ count
+found_link k count links h lt =
+    let link = get_or links count no_link in
+    link_is k count links link (block_in k count links link (slice_get-get_or links count no_link (link_within k count links h lt)) h lt)
+
+pub block_is : (tables : ConstantTables) (k count : ℕ) (links : List FilmLink) (link : FilmLink) → BlockIn k count links link → film_block tables links k ≡ link_block tables count link (k - first_in 0 links count)
+unfolding film_block link_block
+block_is tables k count links link h =
+    let packet = packet_in count link (k - first_in 0 links count) h.few in
+    ap (λ (found : Option BlockPacket). option_map_or (block_of_packet tables links) found []) (h.same ∙ packet.at)
+    ∙ ap (λ (found : Option FilmLink). option_map_or (λ (l : FilmLink). block_in_link tables l packet.bytes) found []) h.at
+    ∙ ap (λ (found : Option BlockPacket). option_map_or (λ (p : BlockPacket). block_in_link tables link p.bytes) found []) (sym packet.at)
 
 -- ---- ends never fall
 

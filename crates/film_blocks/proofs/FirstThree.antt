@@ -1,7 +1,7 @@
 -- The headers of a stream, by its first three entries.
 use Rattle.std.proofs.Common.{◌≡◌, ℕ, List, drop, Option, Some, None, refl}
 use Rattle.model_ogg.specs.Entries.{StreamItem}
-use Rattle.model_line.specs.LinkTests.{Headers, first_packet, three_packets, headers_of}
+use Rattle.model_line.specs.LinkTests.{first_packet, three_packets, headers_of}
 
 without_comment : (ident setup : Option (List ℕ)) → three_packets ident None setup ≡ None
 without_comment None setup = refl

@@ -1,8 +1,7 @@
 -- What holds of headers that are accepted.
-use Rattle.std.proofs.Common.{◌≡◌, ℕ, ◌+◌, ◌^◌, ◌≤◌, ◌<◌, Bool, true, false, cond, nat_lt, is_ok, List, [], ◌∷◌, Option, Some, None, Result, Ok, Err, refl, ap, sym, ◌∙◌, arith}
+use Rattle.std.proofs.Common.{◌≡◌, ℕ, Bool, true, false, cond, nat_lt, is_ok, List, [], ◌∷◌, Option, Some, None, Result, Ok, Err, refl, ap, sym, ◌∙◌}
 use Rattle.std.specs.Option.{option_map_or}
 use Rattle.std.specs.Result.{result_unwrap_or}
-use Rattle.model_ogg.specs.Entries.{StreamItem}
 use Rattle.model_setup.specs.declared.head.IdentFields.{IdentFields}
 use Rattle.model_setup.specs.declared.head.IdentCause.{IdentCause}
 use Rattle.model_setup.specs.declared.head.CommentCause.{CommentCause}
@@ -12,10 +11,9 @@ use Rattle.model_setup.specs.SetupPacket.{SetupFields, setup_of}
 use Rattle.model_line.specs.declared.film.TheConstants.{MOST_CHANNELS}
 use Rattle.model_line.specs.declared.film.FilmFault.{FilmFault}
 use Rattle.model_line.specs.declared.film.FilmFault.TheVariants as faults
-use Rattle.model_line.specs.LinkTests.{Headers, headers_of, ident_fault, channels_fault, comment_fault, setup_fault, setup_fault_by}
+use Rattle.model_line.specs.LinkTests.{Headers, ident_fault, channels_fault, comment_fault, setup_fault, setup_fault_by}
 use Rattle.model_line.specs.Acceptance.{first_fault, unless, no_fields, no_setup, ident_by, setup_by}
-use Rattle.film_blocks.specs.Headers.{said_by, heads_by, heads_of}
-use Rattle.film_blocks.specs.Held.{has_setup}
+use Rattle.film_blocks.specs.Headers.{said_by, heads_by}
 
 abbrev Said : Type 0
 Said = IdentFields × SetupFields

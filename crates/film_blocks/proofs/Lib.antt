@@ -10,3 +10,9 @@ pub mod HeldSetup
 pub mod BlockLinks
 pub mod HeldLinks
 pub mod HeadFacts
+pub mod PlaceSteps
+pub mod BlockPlaces
+pub mod SetupProps
+pub mod LinkBlocks
+pub mod FilmBlock
+pub mod FilmLines

@@ -1,5 +1,5 @@
 -- What reading links gives, one link at a time.
-use Rattle.std.proofs.Common.{◌≡◌, ℕ, ◌+◌, ◌^◌, ◌≤◌, List, [], ◌∷◌, ◌++◌, length, map, drop, refl, ap, sym, ◌∙◌, arith, length-drop}
+use Rattle.std.proofs.Common.{◌≡◌, ℕ, ◌+◌, ◌-◌, ◌^◌, ◌≤◌, List, [], ◌∷◌, ◌++◌, length, map, drop, ap, sym, ◌∙◌, arith, length-drop}
 use Rattle.std.proofs.lemmas.List.{length-map, map-append}
 use Rattle.std.proofs.Math.Nat.{pow-le-pow_right}
 use Rattle.std.specs.List.{All}
@@ -9,10 +9,9 @@ use Rattle.ogg_packets.specs.declared.entry.Entry.{Entry}
 use Rattle.ogg_packets.specs.Entries.{item_of, items_of, EntryLiesBefore}
 use Rattle.model_setup.specs.declared.head.IdentFields.{IdentFields}
 use Rattle.model_setup.specs.HeaderPackets.{IsBlockSize, IsPlayable}
-use Rattle.model_setup.specs.SetupPacket.{SetupFields}
+use Rattle.model_setup.specs.SetupPacket.{SetupFields, IsSetup}
 use Rattle.model_line.specs.declared.row.TheConstants.{LARGEST_BLOCK}
 use Rattle.model_line.specs.declared.film.TheConstants.{MOST_CHANNELS}
-use Rattle.model_ogg.specs.Entries.{StreamItem}
 use Rattle.model_line.specs.declared.row.LinkRows.{LinkRows}
 use Rattle.model_line.specs.Acceptance.{FilmLink, link_with}
 use Rattle.model_line.specs.PacketRows.{row_of, block_flags, rows_by, rows_of}
@@ -23,6 +22,8 @@ use Rattle.model_line.proofs.FactsAt.{length-facts}
 use Rattle.film_index.specs.Bounds.{FitsLink, FitsIndex, rows_in}
 use Rattle.film_blocks.specs.declared.held.HeldLink.{HeldLink}
 use Rattle.film_blocks.specs.Held.{link_in, links_in, IsHeld}
+use Rattle.film_blocks.specs.declared.places.TheConstants.{HEADER_COUNT}
+use Rattle.film_blocks.specs.Places.{block_places}
 use Rattle.film_blocks.specs.Reads.{IsRead, AreRead}
 use Rattle.film_blocks.specs.Ends.{ends_from}
 use Rattle.film_blocks.specs.Films.{IsFilm}
@@ -54,6 +55,13 @@ rows_few bytes h r one = omega (arith, ap (λ (x : LinkRows). length x.rows) one
 pub rows_in-push : (rows : List LinkRows) (r : LinkRows) → rows_in (rows ++ r ∷ []) ≡ rows_in rows + length r.rows
 rows_in-push rows r = sum_by-append (λ (x : LinkRows). length x.rows) rows (r ∷ []) ∙ omega (arith, sum_by-cons (λ (x : LinkRows). length x.rows) r [])
 
+-- the rows of entries behind three headers
+pub rows_behind : (bytes : List ℕ) (es : List Entry) (ident : IdentFields) (setup : SetupFields) (rows : LinkRows) → rows ≡ rows_by ident setup (drop 3 (items_of bytes es)) → length rows.rows ≡ length es - 3
+unfolding rows_by
+rows_behind bytes es ident setup rows is =
+    ap (λ (r : LinkRows). length r.rows) is ∙ length-map (drop 3 (items_of bytes es)) (row_of (block_flags setup))
+    ∙ omega (arith, length-drop 3 (items_of bytes es), length-map es (item_of bytes))
+
 -- ---- one link
 
 block_small : (size : ℕ) → IsBlockSize size → size ≤ LARGEST_BLOCK
@@ -63,21 +71,28 @@ block_small size h =
 
 -- a link is read right, where its headers are accepted and its rows are theirs
 pub link_read : (bytes : List ℕ) (h : HeldLink) (rows : LinkRows) (ident : IdentFields) (setup : SetupFields) → All (EntryLiesBefore (length bytes)) h.entries.items → h.channels ≡ ident.channels
-    → Accepted (headers_of (items_of bytes h.entries.items)) ident setup → IsPlayable ident → ident.channels ≤ MOST_CHANNELS → rows ≡ rows_by ident setup (drop 3 (items_of bytes h.entries.items)) → IsRead bytes h rows
+    → Accepted (headers_of (items_of bytes h.entries.items)) ident setup → IsPlayable ident → ident.channels ≤ MOST_CHANNELS → IsSetup ident.channels setup → rows ≡ rows_by ident setup (drop 3 (items_of bytes h.entries.items))
+    → h.sizes.short ≡ ident.short → h.sizes.long ≡ ident.long → h.blocks.items ≡ block_places HEADER_COUNT rows.rows → IsRead bytes h rows
 unfolding link_with rows_by
-link_read bytes h rows ident setup lies channels said playable few rows-are =
+link_read bytes h rows ident setup lies channels said playable few whole rows-are sizes-short sizes-long blocks =
     let entries = drop 3 (items_of bytes h.entries.items) in
     let short = block_small ident.short playable.short in
     let long = block_small ident.long playable.long in
+    let rows-same = rows-are ∙ ap (λ (i : IdentFields). rows_by i setup entries) (sym said.ident_is) ∙ ap (λ (s : SetupFields). rows_by (link_in bytes h).ident s entries) (sym said.setup_is) in
     record {
       held_right = record {
         lies = pieces_lie (length bytes) h.entries.items lies;
         channels = channels ∙ ap (λ (i : IdentFields). i.channels) (sym said.ident_is);
         some = omega (arith, channels, playable.has_channels);
         few = omega (arith, channels, few);
+        short = sizes-short ∙ ap (λ (i : IdentFields). i.short) (sym said.ident_is);
+        long = sizes-long ∙ ap (λ (i : IdentFields). i.long) (sym said.ident_is);
+        blocks = blocks ∙ ap (λ (r : LinkRows). block_places HEADER_COUNT r.rows) rows-same;
         setup = rw channels said.right;
+        playable = ∣ rw said.ident_is playable ∣₁;
+        whole = ∣ rw (channels, said.setup_is) whole ∣₁;
       };
-      rows_right = rows-are ∙ ap (λ (i : IdentFields). rows_by i setup entries) (sym said.ident_is) ∙ ap (λ (s : SetupFields). rows_by (link_in bytes h).ident s entries) (sym said.setup_is);
+      rows_right = rows-same;
       fits = record {
         short = omega (arith, short, ap (λ (r : LinkRows). r.short) rows-are);
         long = omega (arith, long, ap (λ (r : LinkRows). r.long) rows-are);

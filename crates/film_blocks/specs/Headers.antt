@@ -1,5 +1,5 @@
 -- What the headers of a link say.
-use Rattle.std.specs.Prelude.{ℕ, ◌<◌, ◌≤◌, List, Option, Some, None, Result}
+use Rattle.std.specs.Prelude.{ℕ, ◌≤◌, List, Option, Result}
 use Rattle.std.specs.Option.{option_map_or}
 use Rattle.model_ogg.specs.Entries.{StreamItem}
 use Rattle.model_setup.specs.declared.head.IdentFields.{IdentFields}

@@ -8,11 +8,15 @@ use Rattle.ogg_packets.specs.declared.pieces.Piece.{Piece}
 use Rattle.ogg_packets.specs.Pieces.{LiesBefore}
 use Rattle.ogg_packets.specs.Entries.{items_of}
 use Rattle.model_ogg.specs.Entries.{StreamItem}
-use Rattle.model_setup.specs.SetupPacket.{setup_of}
+use Rattle.model_setup.specs.HeaderPackets.{IsPlayable}
+use Rattle.model_setup.specs.SetupPacket.{setup_of, IsSetup}
 use Rattle.model_line.specs.declared.film.TheConstants.{MOST_CHANNELS}
 use Rattle.model_line.specs.LinkTests.{Headers, headers_of}
 use Rattle.model_line.specs.Acceptance.{FilmLink, link_with}
+use Rattle.model_line.specs.PacketRows.{rows_of}
 use Rattle.film_blocks.specs.declared.held.HeldLink.{HeldLink}
+use Rattle.film_blocks.specs.declared.places.TheConstants.{HEADER_COUNT}
+use Rattle.film_blocks.specs.Places.{block_places}
 
 -- the link of a film of these bytes
 abbrev pub link_in : List ℕ → HeldLink → FilmLink
@@ -34,10 +38,16 @@ abbrev pub has_setup : ℕ → List StreamItem → Bool
 has_setup channels items =
     option_map_or (λ (h : Headers). is_ok (setup_of channels h.setup)) (headers_of items) false
 
--- a link is held right: its pieces lie within the bytes, and its setup can be read again
+-- a link is held right: its pieces lie within the bytes, its blocks are found at their places, and
+-- its setup can be read again
 pub record IsHeld (bytes : List ℕ) (held : HeldLink) : Type 0 where
   pub lies : All (LiesBefore (length bytes)) (all_pieces held.entries.items)
   pub channels : held.channels ≡ (link_in bytes held).ident.channels
   pub some : 1 ≤ held.channels
   pub few : held.channels ≤ MOST_CHANNELS
+  pub short : held.sizes.short ≡ (link_in bytes held).ident.short
+  pub long : held.sizes.long ≡ (link_in bytes held).ident.long
+  pub blocks : held.blocks.items ≡ block_places HEADER_COUNT (rows_of (link_in bytes held)).rows
   pub setup : has_setup held.channels (items_of bytes held.entries.items) ≡ true
+  pub playable : ∥ IsPlayable (link_in bytes held).ident ∥₁
+  pub whole : ∥ IsSetup held.channels (link_in bytes held).setup ∥₁

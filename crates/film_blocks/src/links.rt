@@ -10,6 +10,7 @@ ghost use Rattle.model_line.specs.declared.row.TheConstants.{MOST_ENTRIES};
 ghost use Rattle.model_line.specs.Acceptance.{counts_of, link_of, links_of};
 ghost use Rattle.model_line.specs.PacketRows.{rows_by};
 ghost use Rattle.film_index.specs.Bounds.{FitsIndex};
+ghost use Rattle.model_block.specs.FilmBlocks.{sizes_in};
 ghost use Rattle.film_blocks.specs.Entries.{is_packet_entry};
 ghost use Rattle.film_blocks.specs.Headers.{FitHeads};
 ghost use Rattle.film_blocks.specs.Held.{link_in, links_in};
@@ -17,7 +18,9 @@ ghost use Rattle.film_blocks.specs.Reads.{IsRead, AreRead};
 
 use crate::headers::{Heads, after, read_heads};
 use crate::held::HeldLink;
+use crate::places::{HEADER_COUNT, block_places};
 use crate::rows::rows;
+use block_decoding::BlockSizes;
 use chain_links::{LinkPages, pages_in};
 use model_line::{FilmFault, LinkCounts, LinkRows, MOST_ENTRIES, Rows};
 use ogg_packets::{Entry, EntryFault, PageRef, packets, stream_len};
@@ -88,6 +91,16 @@ fn link_rows(
     })
 }
 
+/// The sizes of a link's blocks.
+fn block_sizes(heads: &Heads) -> BlockSizes
+    ensures { result ≡ sizes_in heads.now.ident }
+{
+    BlockSizes {
+        short: heads.ident.short,
+        long: heads.ident.long,
+    }
+}
+
 /// Reads a link of this number, where so many entries may still come.
 fn read_link(
     alloc: Global,
@@ -117,12 +130,15 @@ fn read_link(
     };
     let heads = read_heads(alloc, bytes, number, &entries)?;
     let rows = link_rows(alloc, bytes, &heads, &entries)?;
+    let blocks = block_places(alloc, rows.rows.items(), HEADER_COUNT)?;
     let counts = counts_of(link.serial, pages, &entries);
     Ok(ReadLink {
         held: HeldLink {
             counts,
             channels: heads.ident.channels,
+            sizes: block_sizes(&heads),
             entries,
+            blocks,
         },
         rows,
     })

@@ -11,7 +11,7 @@ use setup_header::{PacketHead, head};
 use std::alloc::Global;
 
 /// The bytes of a piece, where they stand.
-fn piece_bytes<'a>(bytes: &'a [u8], piece: &Piece) -> &'a [u8]
+pub fn piece_bytes<'a>(bytes: &'a [u8], piece: &Piece) -> &'a [u8]
     requires { LiesBefore (length bytes.now) piece.now }
     ensures { result.now ≡ bytes_of bytes.now piece.now }
 {

@@ -1,6 +1,5 @@
-use Rattle.std.proofs.Common.{◌+◌, ℕ, List, count_by, ap, ◌∙◌, arith}
+use Rattle.std.proofs.Common.{◌+◌, ℕ, count_by, ap, ◌∙◌, arith}
 use Rattle.std.proofs.lemmas.List.Sums.{count_by-le-length}
-use Rattle.model_line.specs.declared.row.Row.{Row}
 use Rattle.film_index.proofs.FilmSteps.{rows_more}
 use Rattle.film_blocks.specs.Ends.{is_block}
 use Rattle.film_blocks.proofs.EndSteps.{ends_go_on, ends_stop}

@@ -1,4 +1,4 @@
-use Rattle.std.proofs.Common.{ℕ, length, sym, ap, ◌∙◌}
+use Rattle.std.proofs.Common.{length, sym, ap, ◌∙◌}
 use Rattle.std.proofs.lemmas.List.{drop-map}
 use Rattle.std.proofs.lemmas.List.Elements.{All-drop}
 use Rattle.ogg_packets.specs.Entries.{item_of, items_of, EntryLiesBefore}
@@ -19,8 +19,8 @@ unreachable-requires c =
     let none = rw (c.in_default.is, c.after.ensures, c.deref.ensures.value) at c.in_ok-packet.ensures in
     third_is_there c.args.link.now.channels (items_of bytes es) c.requires.setup (ap first_packet (drop-map (item_of bytes) 2 es) ∙ sym none)
 
-pub returns-in-Ok : goal.returns-in-Ok
-returns-in-Ok c =
+pub returns-in-Ok-clause-setup : goal.returns-in-Ok-clause-setup
+returns-in-Ok-clause-setup c =
     let bytes = c.args.bytes.now in
     let es = c.args.link.now.entries.items in
     let found = rw (c.in-Some.is, c.after.ensures, c.deref.ensures.value) at c.in_ok-packet.ensures in

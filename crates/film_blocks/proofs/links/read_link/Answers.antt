@@ -7,7 +7,8 @@ use Rattle.ogg_packets.specs.Entries.{items_of}
 use Rattle.film_blocks.proofs.Counts.{length-items}
 use Rattle.film_blocks.proofs.HeadFacts.{accepted}
 use Rattle.film_blocks.proofs.LinkSteps.{more, few, too_many, one_link, one_fault, pages_few}
-use Rattle.film_blocks.proofs.ReadSteps.{link_read}
+use Rattle.model_block.specs.declared.sizes.BlockSizes.{BlockSizes}
+use Rattle.film_blocks.proofs.ReadSteps.{link_read, rows_behind}
 use Rattle.film_blocks.proofs.links.read_link.Goals as goal
 
 pub returns-in-Err-TooMany-clause-link : goal.returns-in-Err-TooMany-clause-link
@@ -45,7 +46,8 @@ returns-clause-read c =
     let rows = rw c.deref-2.ensures.value at c.in_ok-rows.ensures in
     let fit = c.in_ok-heads.ensures.fit in
     link_read c.args.bytes.now _ c.in_ok-rows.rows c.in_ok-heads.heads.ident c.in_ok-heads.heads.setup c.in-Ok.ensures.within refl
-    (accepted c.args.number _ c.in_ok-heads.heads.ident c.in_ok-heads.heads.setup said) fit.playable fit.few rows
+    (accepted c.args.number _ c.in_ok-heads.heads.ident c.in_ok-heads.heads.setup said) fit.playable fit.few fit.setup rows
+    (ap (λ (s : BlockSizes). s.short) c.block_sizes.ensures) (ap (λ (s : BlockSizes). s.long) c.block_sizes.ensures) (rw c.items.ensures at c.in_ok-blocks.ensures)
 
 pub returns-clause-count : goal.returns-clause-count
 returns-clause-count c =
@@ -65,3 +67,11 @@ returns-clause-left c =
 
 pub counts_of-counts-requires-clause-pages : goal.counts_of-counts-requires-clause-pages
 counts_of-counts-requires-clause-pages c = omega (arith, c.requires.count, ap length c.pages_in-pages.ensures, pages_few c.args.pages.now c.args.link.now)
+
+pub block_places-requires : goal.block_places-requires
+block_places-requires c =
+    let items = stream_items c.args.bytes.now (played_pages c.args.pages.now c.args.link.now) in
+    let given = rw c.pages_in-pages.ensures at c.in-Ok.ensures.answers in
+    let within = few c.args.left items (items_of c.args.bytes.now c.in-Ok.entries.items) given in
+    let rows = rw c.deref-2.ensures.value at c.in_ok-rows.ensures in
+    omega (arith, ap length c.items.ensures, rows_behind c.args.bytes.now _ c.in_ok-heads.heads.ident c.in_ok-heads.heads.setup c.in_ok-rows.rows rows, within.few, length-items c.args.bytes.now c.in-Ok.entries.items, ap length within.same, c.ranges.left.fits)

@@ -5,6 +5,7 @@ use Rattle.model_ogg.proofs.LinkLaws.{numbers_law}
 use Rattle.model_line.specs.LinkFaults.{of_links}
 use Rattle.film_blocks.proofs.LinkSteps.{by_links, by_refusal}
 use Rattle.film_blocks.proofs.ReadSteps.{film_right}
+use Rattle.film_blocks.proofs.FilmLines.{line_by_read, agrees_by_read}
 use Rattle.film_blocks.proofs.film.Film.open.Goals as goal
 
 pub links-requires-clause-few : goal.links-requires-clause-few
@@ -42,3 +43,17 @@ returns-clause-film c =
     let found = rw (c.deref-2.ensures.value, c.deref-3.ensures.value, c.in_ok-pages.ensures.value, c.deref.ensures.value) at c.in_ok-links.ensures.answers in
     let said = rw (c.deref-4.ensures.value, c.deref-5.ensures.value, c.deref-6.ensures.value, c.in_ok-pages.ensures.value, c.deref.ensures.value) at c.in_ok-held.ensures.links in
     by_links c.args.bytes.items c.in_ok-links.links.items found ∙ said
+
+pub returns-clause-line : goal.returns-clause-line
+returns-clause-line c tables =
+    let found = rw (c.deref-2.ensures.value, c.deref-3.ensures.value, c.in_ok-pages.ensures.value, c.deref.ensures.value) at c.in_ok-links.ensures.answers in
+    let said = rw (c.deref-4.ensures.value, c.deref-5.ensures.value, c.deref-6.ensures.value, c.in_ok-pages.ensures.value, c.deref.ensures.value) at c.in_ok-held.ensures.links in
+    let read = rw c.deref-4.ensures.value at c.in_ok-held.ensures.read in
+    line_by_read tables c.args.bytes.items c.in_ok-held.field-0.held.items c.in_ok-held.field-0.rows.items c.in_ok-index.index (by_links c.args.bytes.items c.in_ok-links.links.items found ∙ said) read c.in_ok-index.ensures
+
+pub returns-clause-agrees : goal.returns-clause-agrees
+returns-clause-agrees c tables =
+    let found = rw (c.deref-2.ensures.value, c.deref-3.ensures.value, c.in_ok-pages.ensures.value, c.deref.ensures.value) at c.in_ok-links.ensures.answers in
+    let said = rw (c.deref-4.ensures.value, c.deref-5.ensures.value, c.deref-6.ensures.value, c.in_ok-pages.ensures.value, c.deref.ensures.value) at c.in_ok-held.ensures.links in
+    let read = rw c.deref-4.ensures.value at c.in_ok-held.ensures.read in
+    agrees_by_read tables c.args.bytes.items c.in_ok-held.field-0.held.items c.in_ok-held.field-0.rows.items c.in_ok-index.index (by_links c.args.bytes.items c.in_ok-links.links.items found ∙ said) read c.in_ok-index.ensures

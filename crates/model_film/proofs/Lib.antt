@@ -1,0 +1,16 @@
+pub mod VectorSizes
+pub mod ResidueSizes
+pub mod BlockSizes
+pub mod FilmBlocks
+pub mod ItemLines
+pub mod LineCounts
+pub mod OriginLines
+pub mod Readings
+pub mod HeaderFacts
+pub mod IdentFacts
+pub mod Accepted
+pub mod Examples
+pub mod NumberedBlocks
+pub mod SpanHalves
+pub mod SmallValues
+pub mod SmallBlocks

@@ -1,0 +1,4 @@
+pub mod FilmLines
+pub mod Links
+pub mod Dumps
+pub mod Laws
