@@ -1,6 +1,6 @@
 //! `ogg_pages`: bytes with pages among them, and checksums.
 
-use ogg_pages::{PageRef, checksum, scan};
+use ogg_pages::{PageRef, checksum, next_page, scan};
 use std::alloc::{AllocError, Global};
 use std::test::Fail;
 
@@ -36,6 +36,26 @@ fn finds_the_pages_between_other_bytes(rt: HostRuntime) -> Result<(), Fail> {
     let found = scan(rt.alloc(), &PAGES_BETWEEN)?;
     assert_eq!(rt; found.as_slice(), [first, last].as_slice());
     Ok(())
+}
+
+/// From a place, where the next page stands: from a page's own place it is that page, and behind
+/// the last page, or the end, there is none.
+#[test]
+fn finds_the_next_page(rt: HostRuntime) {
+    let rows = [
+        (0u64, Some(2u64)),
+        (2, Some(2)),
+        (3, Some(33)),
+        (33, Some(33)),
+        (34, None),
+        (64, None),
+        (65, None),
+        (u64::MAX, None),
+    ];
+    for (from, place) in &rows {
+        let found = next_page(&PAGES_BETWEEN, *from).map(|page| page.place);
+        assert_eq!(rt; found, *place, "from {from}");
+    }
 }
 
 /// The check value of this checksum: polynomial 0x04c11db7, no reflection, from 0, over the digits
@@ -74,11 +94,11 @@ fn sample(alloc: Global, len: u32) -> Result<Vec<u8>, AllocError> {
     Ok(bytes)
 }
 
-/// Lengths round the bytes of the checksum itself, round one and two steps of eight behind them,
-/// and a long one.
+/// Lengths round the bytes of the checksum itself, round steps of four and sixteen behind them, and
+/// a long one.
 #[test]
 fn sums_by_tables_as_bit_by_bit(rt: HostRuntime) -> Result<(), Fail> {
-    for len in [0u32, 1, 9, 22, 23, 25, 26, 27, 33, 34, 35, 42, 300] {
+    for len in [0u32, 1, 9, 22, 23, 25, 26, 27, 29, 30, 41, 42, 43, 58, 300] {
         let bytes = sample(rt.alloc(), len)?;
         assert_eq!(rt;
             checksum(&bytes),

@@ -1,22 +1,17 @@
 -- Where a page begins, its front stands; so a search for that front passes over no page.
-use Rattle.std.proofs.Common.{◌≡◌, ℕ, zero, suc, ◌+◌, ◌-◌, ◌<◌, ◌≤◌, Bool, true, false, nat_le, cond, List, [], ◌∷◌, ◌++◌, length, take, drop, get_or, Some, None, refl, sym, ap, ◌∙◌, inl, inr, arith}
-use Rattle.std.specs.Prelude.{codes}
-use Rattle.std.proofs.lemmas.Bool.{and_parts, eqb-true, leb-true, cases_Bool}
+use Rattle.std.proofs.Common.{◌≡◌, ℕ, zero, suc, ◌+◌, ◌-◌, ◌*◌, ◌^◌, ◌<◌, ◌≤◌, Bool, true, false, nat_le, cond, List, [], ◌∷◌, ◌++◌, length, take, drop, get_or, Some, None, refl, sym, ap, subst, ◌∙◌, inl, inr, arith}
+use Rattle.std.specs.Prelude.{codes, fold}
+use Rattle.std.proofs.lemmas.Bool.{and_parts, eqb-true, leb-true, cases_Bool, cases_lt}
 use Rattle.std.proofs.lemmas.Bool.Decides.{Decides-eqb}
 use Rattle.std.proofs.lemmas.Slice.Eq.{starts_is}
-use Rattle.std.proofs.lemmas.List.{get_or-take, get_or-drop, drop-drop, length-drop}
-use Rattle.memchr.specs.Find.{OccursAt, Nowhere, FindsNeedle}
+use Rattle.std.proofs.lemmas.List.{get_or-take, get_or-drop, drop-drop, length-drop, length-take-le}
+use Rattle.memchr.specs.Find.{OccursAt, FindsNeedle}
 use Rattle.model_ogg.specs.declared.page.TheConstants.{HEADER_LEN}
 use Rattle.model_ogg.specs.declared.page.PageRef.{PageRef}
-use Rattle.model_ogg.specs.Pages.{len_of, page_len, is_right_page, begins_page, page_ref, pages}
-use Rattle.model_ogg.proofs.PageLaws.{pages_law, page_len-least, page_ref-len, begins_page-fits}
-use Rattle.ogg_pages.specs.Next.{page_front, IsNextPage}
+use Rattle.model_ogg.specs.Pages.{IsPageOf, len_of, page_len, is_right_page, begins_page, page_ref}
+use Rattle.model_ogg.proofs.PageLaws.{page_len-least, page_ref-len, begins_page-fits}
+use Rattle.ogg_pages.specs.Next.{page_front, whole_there, page_there, HasNoPage, IsNextPage, StandsWhole}
 use Rattle.std.proofs.lemmas.Option.{cond_some}
-use Rattle.ogg_pages.proofs.Scans.{page_there, page_there-len, found_one, found_none}
-
-page_ref-place : (place : ℕ) (bytes : List ℕ) → (page_ref place bytes).place ≡ place
-unfolding page_ref
-page_ref-place place bytes = refl
 
 right_front : (page : List ℕ) → is_right_page page ≡ true → (page ≡ codes "OggS" ++ drop 4 page) × (get_or page 4 0 ≡ 0)
 unfolding is_right_page
@@ -63,73 +58,112 @@ none_begins bytes place k none =
       | inr no_is ↦ no_is
     ]
 
--- places without the front are passed over
-passed : (bytes : List ℕ) (place n : ℕ) → place + n ≤ length bytes → Nowhere (OccursAt (drop place bytes) page_front) 0 n → pages bytes place ≡ pages bytes (place + n)
-passed bytes place zero le none = ap (pages bytes) (omega arith)
-passed bytes place (suc n) le none =
-    let before = passed bytes place n (omega arith) (λ k low high. none k low (omega arith)) in
-    let same : n + place ≡ place + n = omega arith in
-    let here : begins_page (drop (place + n) bytes) ≡ false = ap (λ (i : ℕ). begins_page (drop i bytes)) (sym same) ∙ none_begins bytes place n (none n (omega arith) (omega arith)) in
-    before ∙ (pages_law bytes (place + n)).2 (omega arith) here ∙ ap (pages bytes) (omega arith)
+-- no page begins behind the end
+pub none_behind : (bytes : List ℕ) (from place : ℕ) → length bytes < from → from ≤ place → begins_page (drop place bytes) ≡ false
+none_behind bytes from place short le =
+    elim (cases_Bool (begins_page (drop place bytes))) [
+      | inl yes_is ↦ absurd (omega (arith, begins_page-fits (drop place bytes) yes_is, page_len-least (drop place bytes), length-drop place bytes))
+      | inr no_is ↦ no_is
+    ]
+
+abbrev pub NoneFrom : List ℕ → ℕ → ℕ → Type 0
+NoneFrom bytes from place = (k : ℕ) → from ≤ k → k < place → begins_page (drop k bytes) ≡ false
+
+-- a place that is so far behind another
+none_at : (bytes : List ℕ) (place k : ℕ) → place ≤ k → (OccursAt (drop place bytes) page_front (k - place) → ⊥) → begins_page (drop k bytes) ≡ false
+none_at bytes place k le none =
+    let there : k - place + place ≡ k = omega arith in
+    ap (λ (i : ℕ). begins_page (drop i bytes)) (sym there) ∙ none_begins bytes place (k - place) none
 
 -- no page is left where the front is nowhere
-pub none_left : (bytes hay needle : List ℕ) (place : ℕ) → place ≤ length bytes → hay ≡ drop place bytes → needle ≡ page_front → FindsNeedle hay needle 0 None → pages bytes place ≡ []
-none_left bytes hay needle place le is_rest is_front none =
-    let len = length-drop place bytes in
+pub none_left : (bytes hay needle : List ℕ) (from place : ℕ) → NoneFrom bytes from place → hay ≡ drop place bytes → needle ≡ page_front → FindsNeedle hay needle 0 None → HasNoPage bytes from
+none_left bytes hay needle from place before is_rest is_front none k le =
     let h = rw (is_rest, is_front) at none in
-    passed bytes place (length bytes - place) (omega arith) (λ k low high. h k low (omega arith)) ∙ (pages_law bytes (place + (length bytes - place))).0 (omega arith)
+    elim (cases_lt k place) [
+      | inl early ↦ before k le early
+      | inr late ↦ none_at bytes place k late (λ occurs. h (k - place) (omega arith) (omega (arith, occurs.fits)) occurs)
+    ]
 
--- the pages left are those from where the front is
+-- where the front is found, no page begins before
 pub record IsPassed (bytes : List ℕ) (from place : ℕ) : Type 0 where
   pub below : place < length bytes
-  pub same : pages bytes from ≡ pages bytes place
+  pub none : NoneFrom bytes from place
 
-pub passed_over : (bytes hay needle : List ℕ) (place k : ℕ) → place ≤ length bytes → hay ≡ drop place bytes → needle ≡ page_front → FindsNeedle hay needle 0 (Some k) → IsPassed bytes place (place + k)
-passed_over bytes hay needle place k le is_rest is_front found =
-    let len = length-drop place bytes in
+pub passed_over : (bytes hay needle : List ℕ) (from place k : ℕ) → NoneFrom bytes from place → place ≤ length bytes → hay ≡ drop place bytes → needle ≡ page_front → FindsNeedle hay needle 0 (Some k)
+    → IsPassed bytes from (place + k)
+passed_over bytes hay needle from place k before le is_rest is_front found =
     let h = rw (is_rest, is_front) at found in
     let fits = h.1.fits in
-    let lt : place + k < length bytes = omega arith in
-    record { below = lt; same = passed bytes place k (omega arith) (λ i low high. h.0.before i low high) }
+    let len = length-drop place bytes in
+    let none : (i : ℕ) → from ≤ i → i < place + k → begins_page (drop i bytes) ≡ false =
+    λ i low high. elim (cases_lt i place) [
+      | inl early ↦ before i low early
+      | inr late ↦ none_at bytes place i late (h.0.before (i - place) (omega arith) (omega arith))
+    ] in
+    record { below = omega arith; none = none }
+
+page_ref-is : (bytes : List ℕ) (place : ℕ) → begins_page (drop place bytes) ≡ true → IsPageOf bytes (page_ref place (drop place bytes)) × ((page_ref place (drop place bytes)).place ≡ place)
+unfolding page_ref
+page_ref-is bytes place e =
+    let len = page_ref-len place (drop place bytes) in
+    (record { header = refl; right = e; within = omega (arith, begins_page-fits (drop place bytes) e, page_len-least (drop place bytes), length-drop place bytes, len) }, refl)
 
 -- a page that stands at the place found
 pub next_there : (bytes : List ℕ) (from place : ℕ) (page : PageRef) → from ≤ place → IsPassed bytes from place → Some page ≡ page_there bytes place → IsNextPage bytes from page
 next_there bytes from place page le over there =
     let p = cond_some (begins_page (drop place bytes)) (page_ref place (drop place bytes)) page (sym there) in
-    let here : page.place ≡ place = ap (λ (x : PageRef). x.place) (sym p.1) ∙ page_ref-place place (drop place bytes) in
-    let one = found_one bytes place page [] (pages bytes place) over.below there refl in
-    let fits = (page_there-len bytes place page over.below there).1 in
+    let is = page_ref-is bytes place p.0 in
+    let here : page.place ≡ place = ap (λ (x : PageRef). x.place) (sym p.1) ∙ is.1 in
     record {
-      first = over.same ∙ sym one ∙ ap (λ (i : ℕ). page ∷ pages bytes (i + len_of page)) (sym here);
+      page = subst (λ (x : PageRef). IsPageOf bytes x) p.1 is.0;
       after = omega arith;
-      within = omega arith;
+      least = λ k low high. over.none k low (omega arith);
     }
+
+cond_none : {A : Type 0} (b : Bool) (x : A) → cond b (Some x) None ≡ None → b ≡ false
+cond_none true x e = absurd cc
+cond_none false x e = refl
 
 -- no page stands there
-pub none_there : (bytes : List ℕ) (from place : ℕ) → IsPassed bytes from place → page_there bytes place ≡ None → pages bytes from ≡ pages bytes (place + 1)
-none_there bytes from place over there = over.same ∙ sym (found_none bytes place [] (pages bytes place) over.below there refl)
+pub none_there : (bytes : List ℕ) (from place : ℕ) → IsPassed bytes from place → page_there bytes place ≡ None → NoneFrom bytes from (place + 1)
+none_there bytes from place over there k low high =
+    elim (cases_lt k place) [
+      | inl early ↦ over.none k low early
+      | inr late ↦
+          let here : k ≡ place = omega arith in
+          ap (λ (i : ℕ). begins_page (drop i bytes)) here ∙ cond_none (begins_page (drop place bytes)) (page_ref place (drop place bytes)) there
+    ]
 
--- a page that is whole
-pub record IsWhole (rest : List ℕ) (place : ℕ) (page : PageRef) : Type 0 where
-  pub header : page ≡ page_ref place rest
-  pub len : len_of page ≡ page_len rest
-  pub test : nat_le (page_len rest) (length rest) ≡ true
-  pub fits : page_len rest ≤ length rest
-  pub least : HEADER_LEN ≤ page_len rest
+sum-most : (n start : ℕ) (bytes : List ℕ) → ((k : ℕ) → get_or bytes k 0 < 2 ^ 8) → fold ◌+◌ start (take n bytes) ≤ start + 255 * n
+sum-most zero start bytes fits = omega arith
+sum-most (suc n) start [] fits = omega arith
+sum-most (suc n) start (b ∷ bytes) fits =
+    let here : b < 2 ^ 8 = fits 0 in
+    omega (arith, sum-most n (start + b) bytes (λ k. fits (suc k)))
 
-pub whole_there : (rest : List ℕ) (place : ℕ) (page : PageRef) → Some page ≡ cond (nat_le (page_len rest) (length rest)) (Some (page_ref place rest)) None → IsWhole rest place page
-whole_there rest place page e =
+-- a page has 65,307 bytes at most: 255 segments of 255 bytes
+page_len-most : (bytes : List ℕ) → ((k : ℕ) → get_or bytes k 0 < 2 ^ 8) → page_len bytes ≤ 65307
+unfolding page_len
+page_len-most bytes fits =
+    let behind : (k : ℕ) → get_or (drop HEADER_LEN bytes) k 0 < 2 ^ 8 = λ k. rw (get_or-drop HEADER_LEN bytes k 0) (fits (HEADER_LEN + k)) in
+    omega (arith, fits 26, sum-most (get_or bytes 26 0) 0 (drop HEADER_LEN bytes) behind)
+
+pub stands_whole : (bytes : List ℕ) (place len end : ℕ) (page : PageRef) → ((k : ℕ) → get_or bytes k 0 < 2 ^ 8) → place ≤ length bytes → len ≡ len_of page → end ≡ place + len
+    → Some page ≡ whole_there (drop place bytes) place → StandsWhole bytes place end page
+stands_whole bytes place len end page fits within is_len is_end e =
+    let rest = drop place bytes in
     let p = cond_some (nat_le (page_len rest) (length rest)) (page_ref place rest) page (sym e) in
+    let long : len_of page ≡ page_len rest = ap (λ (x : PageRef). len_of x) (sym p.1) ∙ page_ref-len place rest in
+    let most = page_len-most rest (λ k. rw (get_or-drop place bytes k 0) (fits (place + k))) in
+    let left : length rest ≡ length bytes - place = length-drop place bytes in
+    let count : end - place ≡ page_len rest = omega arith in
+    let inside : end - place ≤ length rest = omega (arith, leb-true (page_len rest) (length rest) p.0) in
     record {
       header = sym p.1;
-      len = ap (λ (x : PageRef). len_of x) (sym p.1) ∙ page_ref-len place rest;
-      test = p.0;
-      fits = leb-true (page_len rest) (length rest) p.0;
-      least = page_len-least rest;
+      whole = p.0;
+      part = ap (λ n. take n rest) count;
+      long = ap (λ n. n + place) (length-take-le (end - place) rest inside) ∙ omega arith;
+      within = omega arith;
+      least = omega (arith, page_len-least rest);
+      most = omega arith;
     }
-
-pub begins_there : (rest : List ℕ) (place n : ℕ) (page : PageRef) (right : Bool) → IsWhole rest place page → n ≡ len_of page → right ≡ is_right_page (take n rest) → begins_page rest ≡ right
-unfolding begins_page
-begins_there rest place n page right whole len is =
-    let same : n ≡ page_len rest = len ∙ whole.len in
-    rw (whole.test, ← same) (sym is)

@@ -1,1 +1,4 @@
 pub mod Next
+pub mod Leaps
+pub mod Ring
+pub mod Checksums

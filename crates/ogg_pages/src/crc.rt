@@ -1,5 +1,5 @@
 ghost use Rattle.std.specs.Prelude.{◌≡◌, ◌+◌, ◌*◌, ◌^◌, ◌<◌, ◌≤◌, length, fold, replicate};
-ghost use Rattle.model_ogg.specs.Checksum.{with_byte, read_as, checksum_of};
+ghost use Rattle.model_ogg.specs.Checksum.{with_byte, checksum_of};
 
 use crate::tables::TABLES;
 
@@ -7,7 +7,7 @@ use crate::tables::TABLES;
 /// more.
 #[tactic(auto, using(crate::proofs::Rows::table_at))]
 fn entry(table: usize, byte: u8) -> u32
-    requires { table < 8 }
+    requires { table < 16 }
     ensures { result ≡ fold with_byte (byte * 2 ^ 24) (replicate (table + 1) 0) }
 {
     TABLES[table][usize::from(byte)]
@@ -21,23 +21,43 @@ fn byte_added(register: u32, byte: u8) -> u32
     (register << 8) ^ entry(0, top ^ byte)
 }
 
-/// The register after eight more bytes. Each of them comes to its entry of the table of the bytes
-/// that follow it, and so does each byte of the register, together with one of the first four.
-fn eight_added(register: u32, bytes: &[u8; 8]) -> u32
+/// The register after four more bytes. Each byte of the register goes with one of them, and comes
+/// to its entry of the table of the bytes that follow it.
+fn four_added(register: u32, bytes: &[u8; 4]) -> u32
     ensures { result ≡ fold with_byte register bytes.now }
 {
     let tops = register.to_be_bytes();
-    entry(0, bytes[7])
-        ^ entry(1, bytes[6])
-        ^ entry(2, bytes[5])
-        ^ entry(3, bytes[4])
-        ^ entry(4, tops[3] ^ bytes[3])
-        ^ entry(5, tops[2] ^ bytes[2])
-        ^ entry(6, tops[1] ^ bytes[1])
-        ^ entry(7, tops[0] ^ bytes[0])
+    entry(0, tops[3] ^ bytes[3])
+        ^ entry(1, tops[2] ^ bytes[2])
+        ^ entry(2, tops[1] ^ bytes[1])
+        ^ entry(3, tops[0] ^ bytes[0])
 }
 
-/// The register after fewer bytes than a step of eight takes.
+/// The register after sixteen more bytes. The first four go with the register's, and the others
+/// come to their entries alone.
+fn sixteen_added(register: u32, bytes: &[u8; 16]) -> u32
+    ensures { result ≡ fold with_byte register bytes.now }
+{
+    let tops = register.to_be_bytes();
+    entry(0, bytes[15])
+        ^ entry(1, bytes[14])
+        ^ entry(2, bytes[13])
+        ^ entry(3, bytes[12])
+        ^ entry(4, bytes[11])
+        ^ entry(5, bytes[10])
+        ^ entry(6, bytes[9])
+        ^ entry(7, bytes[8])
+        ^ entry(8, bytes[7])
+        ^ entry(9, bytes[6])
+        ^ entry(10, bytes[5])
+        ^ entry(11, bytes[4])
+        ^ entry(12, tops[3] ^ bytes[3])
+        ^ entry(13, tops[2] ^ bytes[2])
+        ^ entry(14, tops[1] ^ bytes[1])
+        ^ entry(15, tops[0] ^ bytes[0])
+}
+
+/// The register after fewer bytes than a step of four takes.
 fn few_added(register: u32, bytes: &[u8]) -> u32
     ensures { result ≡ fold with_byte register bytes.now }
 {
@@ -48,37 +68,43 @@ fn few_added(register: u32, bytes: &[u8]) -> u32
     sum
 }
 
-/// The register after these bytes.
-fn bytes_added(register: u32, bytes: &[u8]) -> u32
+/// The register after fewer bytes than a step of sixteen takes.
+fn fours_added(register: u32, bytes: &[u8]) -> u32
     ensures { result ≡ fold with_byte register bytes.now }
 {
     let mut sum = register;
     let mut rest = bytes;
-    while let Some((eight, after)) = rest.split_first_chunk::<8>() {
-        sum = eight_added(sum, eight);
+    while let Some((four, after)) = rest.split_first_chunk::<4>() {
+        sum = four_added(sum, four);
         rest = after;
     }
     few_added(sum, rest)
 }
 
-/// What the byte at this offset of a page counts as.
-#[tactic(auto, unfolding(model_ogg::specs::Checksum::read_as))]
-fn byte_read(offset: usize, byte: u8) -> u8
-    ensures { result ≡ read_as offset byte }
+/// The register after these bytes.
+pub fn bytes_added(register: u32, bytes: &[u8]) -> u32
+    ensures { result ≡ fold with_byte register bytes.now }
 {
-    if (22..26).contains(&offset) { 0 } else { byte }
+    let mut sum = register;
+    let mut rest = bytes;
+    while let Some((sixteen, after)) = rest.split_first_chunk::<16>() {
+        sum = sixteen_added(sum, sixteen);
+        rest = after;
+    }
+    fours_added(sum, rest)
 }
 
+/// As many bytes 0 as the checksum itself has.
+static NO_CHECKSUM: [u8; 4] = [0; 4];
+
 /// The checksum of the front of a page, as far as the checksum itself stands in it.
-#[tactic(auto, using(crate::proofs::Sums::byte_steps))]
-fn front_checksum(bytes: &[u8]) -> u32
-    ensures { result ≡ checksum_of bytes.now }
+#[tactic(auto, using(crate::proofs::Sums::front_law))]
+pub fn front_checksum(front: &[u8]) -> u32
+    requires { length front.now ≤ 26 }
+    ensures { result ≡ checksum_of front.now }
 {
-    let mut sum = 0;
-    for (offset, byte) in bytes.iter().enumerate() {
-        sum = byte_added(sum, byte_read(offset, *byte));
-    }
-    sum
+    let (before, own) = front.split_at(front.len().min(22));
+    bytes_added(bytes_added(0, before), &NO_CHECKSUM[..own.len()])
 }
 
 /// The checksum of a page, of which bytes 22 to 25, the checksum itself, count as 0 (RFC 3533,

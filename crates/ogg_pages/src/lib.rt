@@ -1,13 +1,17 @@
 //! Finds the pages of an Ogg file (RFC 3533, section 6).
 #![tactic(auto)]
 
+mod checksums;
 mod crc;
+mod leap_tables;
+mod leaps;
 mod parts;
+mod ring;
 mod scanner;
 mod tables;
 
 pub use crc::checksum;
 pub use model_ogg::PageRef;
 pub use parts::{body, laces, segment_place};
-pub use scanner::scan;
+pub use scanner::{next_page, scan};
 pub use sequence::NoMemory;
