@@ -1,5 +1,5 @@
 -- A block of a link is found at its place among the link's entries.
-use Rattle.std.proofs.Common.{◌≡◌, ℕ, zero, suc, ◌+◌, ◌<◌, Bool, List, [], ◌∷◌, length, map, drop, get_or, Option, Some, option_map, refl, sym, ap, ◌∙◌, arith}
+use Rattle.std.proofs.Common.{◌≡◌, ℕ, zero, suc, ◌+◌, ◌<◌, Bool, List, [], ◌∷◌, length, map, drop, get_or, Option, Some, None, option_map, refl, sym, ap, ◌∙◌, arith}
 use Rattle.std.specs.List.{slice_get, flat_map}
 use Rattle.std.proofs.lemmas.List.{length-map}
 use Rattle.std.proofs.lemmas.Option.{slice_get-map, slice_get_read, slice_get_within}
@@ -13,9 +13,8 @@ use Rattle.model_line.specs.PacketRows.{BlockPacket, block_flags, row_of, rows_b
 use Rattle.model_line.proofs.BlockPackets.{link_behind}
 use Rattle.ogg_packets.specs.declared.entry.Entry.{Entry}
 use Rattle.ogg_packets.specs.declared.entry.Entry.TheVariants.{Packet, Lost}
-use Rattle.ogg_packets.specs.declared.pieces.Piece.{Piece}
 use Rattle.ogg_packets.specs.Pieces.{joined}
-use Rattle.ogg_packets.specs.Entries.{item_of, items_of}
+use Rattle.ogg_packets.specs.Entries.{item_of, items_of, packet_in}
 use Rattle.block_decoding.specs.Setups.{IsBlockHead}
 use Rattle.film_blocks.specs.declared.held.HeldLink.{HeldLink}
 use Rattle.film_blocks.specs.declared.places.TheConstants.{HEADER_COUNT}
@@ -156,21 +155,24 @@ entry_is : (bytes : List ℕ) (es : List Entry) (place : ℕ) (e : Entry) (item 
 entry_is bytes es place e item lt is at =
     same_item (item_of bytes e) item (sym (slice_get-map (item_of bytes) es place ∙ ap (option_map (item_of bytes)) (slice_get_read es (length es) place e refl lt is)) ∙ at)
 
-packet_is : (bytes found : List ℕ) (mark other : Option Mark) (pieces : List Piece) → item_of bytes (Packet pieces other) ≡ packet found mark → joined bytes pieces ≡ found
-packet_is bytes found mark other pieces e = cc
+-- what an entry says of a packet's bytes, where it stands for this packet
+packet_by_item : (bytes found : List ℕ) (mark : Option Mark) (e : Entry) → item_of bytes e ≡ packet found mark → packet_in bytes e ≡ Some found
+packet_by_item bytes found mark (Packet pieces other) is = let same : joined bytes pieces ≡ found = cc in ap Some same
+packet_by_item bytes found mark Lost is = absurd (cc)
 
-no_packet : (bytes found : List ℕ) (mark : Option Mark) → item_of bytes Lost ≡ packet found mark → ⊥
-no_packet bytes found mark e = cc
-
-pub never_lost : (number : ℕ) (bytes : List ℕ) (held : HeldLink) (j place : ℕ) (e : Entry) → (it : BlockAt number bytes held j) → place ≡ it.place → e ≡ get_or held.entries.items place e → e ≡ Lost → ⊥
-never_lost number bytes held j place e it same is gone =
+-- the entry there is the block's packet
+pub packet_there : (number : ℕ) (bytes : List ℕ) (held : HeldLink) (j place : ℕ) (e : Entry) → (it : BlockAt number bytes held j) → place ≡ it.place → e ≡ get_or held.entries.items place e → packet_in bytes e ≡ Some it.packet_bytes
+packet_there number bytes held j place e it same is =
     let there = entry_there number bytes held j place it same in
     let entry = entry_is bytes held.entries.items place e (packet it.packet_bytes it.mark) there is (rw same it.entry) in
-    no_packet bytes it.packet_bytes it.mark (rw gone at entry)
+    packet_by_item bytes it.packet_bytes it.mark e entry
 
-pub pieces_are : (number : ℕ) (bytes : List ℕ) (held : HeldLink) (j place : ℕ) (e : Entry) (pieces : List Piece) (mark : Option Mark) → (it : BlockAt number bytes held j) → place ≡ it.place → e ≡ get_or held.entries.items place e
-    → e ≡ Packet pieces mark → joined bytes pieces ≡ it.packet_bytes
-pieces_are number bytes held j place e pieces mark it same is found =
-    let there = entry_there number bytes held j place it same in
-    let entry = entry_is bytes held.entries.items place e (packet it.packet_bytes it.mark) there is (rw same it.entry) in
-    packet_is bytes it.packet_bytes it.mark mark pieces (rw found at entry)
+same_bytes : (found other : List ℕ) → Some found ≡ Some other → found ≡ other
+same_bytes found other e = cc
+
+-- so it is not missing, and has the packet's bytes
+pub never_lost : (number : ℕ) (bytes : List ℕ) (held : HeldLink) (j : ℕ) (it : BlockAt number bytes held j) (answer : Option (List ℕ)) → answer ≡ Some it.packet_bytes → answer ≡ None → ⊥
+never_lost number bytes held j it answer is gone = cc
+
+pub bytes_are : (number : ℕ) (bytes : List ℕ) (held : HeldLink) (j : ℕ) (it : BlockAt number bytes held j) (found : List ℕ) (answer : Option (List ℕ)) → answer ≡ Some it.packet_bytes → Some found ≡ answer → found ≡ it.packet_bytes
+bytes_are number bytes held j it found answer is there = same_bytes found it.packet_bytes (there ∙ is)

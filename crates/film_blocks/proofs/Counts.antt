@@ -5,9 +5,8 @@ use Rattle.std.proofs.lemmas.List.Sums.{sum_by-cons}
 use Rattle.model_ogg.specs.Entries.{StreamItem}
 use Rattle.ogg_packets.specs.declared.entry.Entry.{Entry}
 use Rattle.ogg_packets.specs.declared.entry.Entry.TheVariants.{Packet, Lost}
-use Rattle.ogg_packets.specs.Entries.{item_of, items_of}
+use Rattle.ogg_packets.specs.Entries.{is_packet_entry, item_of, items_of}
 use Rattle.model_line.specs.Acceptance.{is_packet}
-use Rattle.film_blocks.specs.Entries.{is_packet_entry}
 
 is_packet-item_of : (bytes : List ℕ) (e : Entry) → is_packet (item_of bytes e) ≡ is_packet_entry e
 is_packet-item_of bytes (Packet pieces mark) = refl

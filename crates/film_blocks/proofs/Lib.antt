@@ -1,7 +1,6 @@
 pub mod Counts
 pub mod FirstThree
 pub mod LinkSteps
-pub mod OnePiece
 pub mod HeldPieces
 pub mod RowSteps
 pub mod EndSteps

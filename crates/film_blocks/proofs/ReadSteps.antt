@@ -10,7 +10,7 @@ use Rattle.ogg_packets.specs.Entries.{item_of, items_of, EntryLiesBefore}
 use Rattle.model_setup.specs.declared.head.IdentFields.{IdentFields}
 use Rattle.model_setup.specs.HeaderPackets.{IsBlockSize, IsPlayable}
 use Rattle.model_setup.specs.SetupPacket.{SetupFields, IsSetup}
-use Rattle.model_line.specs.declared.row.TheConstants.{LARGEST_BLOCK}
+use Rattle.model_line.specs.declared.row.TheConstants.{LARGEST_BLOCK, MOST_ENTRIES}
 use Rattle.model_line.specs.declared.film.TheConstants.{MOST_CHANNELS}
 use Rattle.model_line.specs.declared.row.LinkRows.{LinkRows}
 use Rattle.model_line.specs.Acceptance.{FilmLink, link_with}
@@ -21,12 +21,12 @@ use Rattle.model_line.specs.Index.{Indexed, Indexes, all_behind}
 use Rattle.model_line.proofs.FactsAt.{length-facts}
 use Rattle.film_index.specs.Bounds.{FitsLink, FitsIndex, rows_in}
 use Rattle.film_blocks.specs.declared.held.HeldLink.{HeldLink}
-use Rattle.film_blocks.specs.Held.{link_in, links_in, IsHeld}
+use Rattle.film_blocks.specs.Held.{link_in, links_in, IsHeld, blocks_in, held_ends}
 use Rattle.film_blocks.specs.declared.places.TheConstants.{HEADER_COUNT}
 use Rattle.film_blocks.specs.Places.{block_places}
 use Rattle.film_blocks.specs.Reads.{IsRead, AreRead}
-use Rattle.film_blocks.specs.Ends.{ends_from}
 use Rattle.film_blocks.specs.Films.{IsFilm}
+use Rattle.film_blocks.proofs.EndSteps.{ends_are, blocks_few}
 use Rattle.film_blocks.proofs.HeldPieces.{pieces_lie}
 use Rattle.film_blocks.proofs.HeadFacts.{Accepted}
 
@@ -103,7 +103,7 @@ link_read bytes h rows ident setup lies channels said playable few whole rows-ar
 
 -- what is kept of a film is right, where its links are read right and its index is that of their
 -- rows
-pub film_right : (bytes : List ℕ) (held : List HeldLink) (rows : List LinkRows) (ends : List ℕ) (index : Indexed) → AreRead bytes held rows → FitsIndex rows → ends ≡ ends_from 0 (map entries_of rows) → Indexes rows index
+pub film_right : (bytes : List ℕ) (held : List HeldLink) (rows : List LinkRows) (ends : List ℕ) (index : Indexed) → AreRead bytes held rows → FitsIndex rows → ends ≡ held_ends 0 held → Indexes rows index
     → IsFilm bytes held ends index
 film_right bytes held rows ends index read fits ends-are h =
     let len : length rows ≡ length held = ap length read.rows_right ∙ length-map (links_in bytes held) rows_of ∙ length-map held (link_in bytes) in
@@ -111,6 +111,10 @@ film_right bytes held rows ends index read fits ends-are h =
       held_right = read.held_right;
       few = omega (arith, len, fits.count);
       links = ap length h.facts ∙ length-facts 0 rows ∙ len;
-      ends_right = ends-are ∙ ap (λ (rs : List LinkRows). ends_from 0 (map entries_of rs)) read.rows_right;
+      ends_right = ends-are ∙ ends_are bytes 0 held read.held_right;
       blocks = h.count ∙ ap (λ (rs : List LinkRows). all_behind 0 (map entries_of rs)) read.rows_right;
     }
+
+-- a film has no more blocks than entries are allowed
+pub film_blocks_few : (bytes : List ℕ) (held : List HeldLink) (rows : List LinkRows) → AreRead bytes held rows → FitsIndex rows → blocks_in held ≤ MOST_ENTRIES
+film_blocks_few bytes held rows read fits = omega (arith, blocks_few bytes held read.held_right, ap rows_in read.rows_right, fits.rows)

@@ -1,5 +1,6 @@
 -- What the headers of a link say.
 use Rattle.std.specs.Prelude.{ℕ, ◌≤◌, List, Option, Result}
+use Rattle.std.specs.Cow.{cow_slice_items}
 use Rattle.std.specs.Option.{option_map_or}
 use Rattle.model_ogg.specs.Entries.{StreamItem}
 use Rattle.model_setup.specs.declared.head.IdentFields.{IdentFields}
@@ -15,9 +16,9 @@ use Rattle.film_blocks.specs.declared.headers.Heads.{Heads}
 -- the bytes of the program's header packets
 abbrev pub packets_in : HeaderPackets → Headers
 packets_in packets = record {
-  ident = packets.ident.items;
-  comment = packets.comment.items;
-  setup = packets.setup.items;
+  ident = cow_slice_items packets.ident;
+  comment = cow_slice_items packets.comment;
+  setup = cow_slice_items packets.setup;
 }
 
 -- what the identification and the setup of these headers say

@@ -1,5 +1,5 @@
 -- What is kept of a link stands for.
-use Rattle.std.specs.Prelude.{◌≡◌, ℕ, ◌≤◌, Bool, true, false, List, [], length, map, All, is_ok}
+use Rattle.std.specs.Prelude.{◌≡◌, ℕ, ◌+◌, ◌≤◌, Bool, true, false, List, [], ◌∷◌, length, map, sum_by, All, is_ok}
 use Rattle.std.specs.Option.{option_map_or}
 use Rattle.std.specs.List.{flat_map}
 use Rattle.ogg_packets.specs.declared.entry.Entry.{Entry}
@@ -51,3 +51,15 @@ pub record IsHeld (bytes : List ℕ) (held : HeldLink) : Type 0 where
   pub setup : has_setup held.channels (items_of bytes held.entries.items) ≡ true
   pub playable : ∥ IsPlayable (link_in bytes held).ident ∥₁
   pub whole : ∥ IsSetup held.channels (link_in bytes held).setup ∥₁
+
+-- ---- how many blocks are held
+
+-- of all links
+abbrev pub blocks_in : List HeldLink → ℕ
+blocks_in held = sum_by (λ (h : HeldLink). length h.blocks.items) held
+
+-- up to and with each link, where so many come before them all
+unfoldable pub held_ends : ℕ → List HeldLink → List ℕ
+held_ends n [] = []
+held_ends n (h ∷ held) =
+    (n + length h.blocks.items) ∷ held_ends (n + length h.blocks.items) held

@@ -1,4 +1,3 @@
-pub mod Entries
 pub mod Headers
 pub mod Held
 pub mod Ends

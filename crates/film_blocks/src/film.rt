@@ -80,7 +80,7 @@ impl Film {
         let pages = scan(alloc, &bytes)?;
         let links = links(alloc, &bytes, &pages)?;
         let ReadLinks { held, rows } = read_links(alloc, &bytes, &pages, &links)?;
-        let ends = block_ends(alloc, &rows)?;
+        let ends = block_ends(alloc, &held)?;
         let index = Index::build(alloc, rows)?;
         Ok(Film {
             bytes,

@@ -1,4 +1,5 @@
 ghost use Rattle.std.specs.Prelude.{◌≡◌, ◌<◌, ◌≤◌, ℕ, Some, List, length, drop, All, IfOk, is_some, option_map};
+ghost use Rattle.std.specs.Cow.{cow_slice_items};
 ghost use Rattle.sequence.specs.Answers.{Answers};
 ghost use Rattle.ogg_packets.specs.Entries.{items_of, EntryLiesBefore};
 ghost use Rattle.model_line.specs.LinkTests.{first_packet, headers_of};
@@ -7,17 +8,18 @@ ghost use Rattle.film_blocks.specs.Headers.{packets_in, heads_by, heads_of, FitH
 use head_packets::{comment, ident};
 use model_line::{FilmFault, MOST_CHANNELS};
 use model_setup::{IdentFields, SetupFault};
-use ogg_packets::{Entry, joined};
+use ogg_packets::KeptEntry;
 use sequence::NoMemory;
 use setup_header::Setup;
 use std::alloc::Global;
+use std::borrow::CowSlice;
 
 /// The bytes of the three header packets of a stream.
 #[derive(Drop)]
-struct HeaderPackets {
-    ident: Vec<u8>,
-    comment: Vec<u8>,
-    setup: Vec<u8>,
+struct HeaderPackets<'a> {
+    ident: CowSlice<'a, u8>,
+    comment: CowSlice<'a, u8>,
+    setup: CowSlice<'a, u8>,
 }
 
 /// What the headers of a link say.
@@ -28,7 +30,7 @@ pub struct Heads {
 }
 
 /// The entries after so many.
-pub fn after(entries: &[Entry], count: usize) -> &[Entry]
+pub fn after(entries: &[KeptEntry], count: usize) -> &[KeptEntry]
     ensures { result.now ≡ drop count entries.now }
 {
     if count < entries.len() {
@@ -39,30 +41,27 @@ pub fn after(entries: &[Entry], count: usize) -> &[Entry]
 }
 
 /// The bytes of the first entry, where it is a packet.
-pub fn packet_bytes(
+pub fn packet_bytes<'a>(
     alloc: Global,
-    bytes: &[u8],
-    entries: &[Entry],
-) -> Result<Option<Vec<u8>>, NoMemory>
+    bytes: &'a [u8],
+    entries: &[KeptEntry],
+) -> Result<Option<CowSlice<'a, u8>>, NoMemory>
     requires { All (EntryLiesBefore (length bytes.now)) entries.now }
-    ensures { IfOk result (λ packet. option_map (λ v. v.items) packet
+    ensures { IfOk result (λ packet. option_map cow_slice_items packet
         ≡ first_packet (items_of bytes.now entries.now)) }
 {
     match entries {
-        [Entry::Packet { pieces, .. }, ..] => {
-            let packet = joined(alloc, bytes, pieces)?;
-            Ok(Some(packet))
-        }
-        _ => Ok(None),
+        [entry, ..] => entry.bytes(alloc, bytes),
+        [] => Ok(None),
     }
 }
 
 /// The header packets of a stream whose first three entries are packets.
-fn header_packets(
+fn header_packets<'a>(
     alloc: Global,
-    bytes: &[u8],
-    entries: &[Entry],
-) -> Result<Option<HeaderPackets>, NoMemory>
+    bytes: &'a [u8],
+    entries: &[KeptEntry],
+) -> Result<Option<HeaderPackets<'a>>, NoMemory>
     requires { All (EntryLiesBefore (length bytes.now)) entries.now }
     ensures { IfOk result (λ packets. option_map packets_in packets
         ≡ headers_of (items_of bytes.now entries.now)) }
@@ -127,7 +126,7 @@ pub fn read_heads(
     alloc: Global,
     bytes: &[u8],
     link: u32,
-    entries: &[Entry],
+    entries: &[KeptEntry],
 ) -> Result<Heads, FilmFault>
     requires { All (EntryLiesBefore (length bytes.now)) entries.now }
     ensures heads { Answers FilmFault.Memory (λ heads. (heads.ident, heads.setup)) result
@@ -142,7 +141,13 @@ pub fn read_heads(
                 comment,
                 setup,
             },
-        ) => judge(alloc, link, &ident, &comment, &setup),
+        ) => judge(
+            alloc,
+            link,
+            ident.as_slice(),
+            comment.as_slice(),
+            setup.as_slice(),
+        ),
         None => Err(FilmFault::HeadMissing { link }),
     }
 }

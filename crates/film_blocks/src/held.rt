@@ -6,7 +6,7 @@ use crate::headers::{after, packet_bytes};
 use block_decoding::BlockSizes;
 use model_line::LinkCounts;
 use model_setup::SetupFault;
-use ogg_packets::Entry;
+use ogg_packets::KeptEntry;
 use sequence::NoMemory;
 use setup_header::Setup;
 use std::alloc::Global;
@@ -19,7 +19,7 @@ pub struct HeldLink {
     pub counts: LinkCounts,
     pub channels: u8,
     pub sizes: BlockSizes,
-    pub entries: Vec<Entry>,
+    pub entries: Vec<KeptEntry>,
     pub blocks: Vec<u32>,
 }
 
@@ -32,7 +32,7 @@ pub fn read_setup(alloc: Global, bytes: &[u8], link: &HeldLink) -> Result<Setup,
     let Some(packet) = packet_bytes(alloc, bytes, after(&link.entries, 2))? else {
         unreachable!()
     };
-    match Setup::read(alloc, link.channels, &packet) {
+    match Setup::read(alloc, link.channels, packet.as_slice()) {
         Ok(setup) => Ok(setup),
         Err(SetupFault::Bad { .. }) => unreachable!(),
         Err(SetupFault::Memory) => Err(NoMemory),

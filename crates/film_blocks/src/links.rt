@@ -4,14 +4,13 @@ ghost use Rattle.model_ogg.specs.Pages.{IsPageOf};
 ghost use Rattle.model_ogg.specs.Streams.{stream_of};
 ghost use Rattle.model_ogg.specs.Entries.{stream_items};
 ghost use Rattle.model_ogg.specs.Links.{LiesAmong, played_pages};
-ghost use Rattle.ogg_packets.specs.Entries.{items_of, EntryLiesBefore};
+ghost use Rattle.ogg_packets.specs.Entries.{is_packet_entry, items_of, EntryLiesBefore};
 ghost use Rattle.model_ogg.specs.declared.link.TheConstants.{MOST_LINKS};
 ghost use Rattle.model_line.specs.declared.row.TheConstants.{MOST_ENTRIES};
 ghost use Rattle.model_line.specs.Acceptance.{counts_of, link_of, links_of};
 ghost use Rattle.model_line.specs.PacketRows.{rows_by};
 ghost use Rattle.film_index.specs.Bounds.{FitsIndex};
 ghost use Rattle.model_block.specs.FilmBlocks.{sizes_in};
-ghost use Rattle.film_blocks.specs.Entries.{is_packet_entry};
 ghost use Rattle.film_blocks.specs.Headers.{FitHeads};
 ghost use Rattle.film_blocks.specs.Held.{link_in, links_in};
 ghost use Rattle.film_blocks.specs.Reads.{IsRead, AreRead};
@@ -23,7 +22,7 @@ use crate::rows::rows;
 use block_decoding::BlockSizes;
 use chain_links::{LinkPages, pages_in};
 use model_line::{FilmFault, LinkCounts, LinkRows, MOST_ENTRIES, Rows};
-use ogg_packets::{Entry, EntryFault, PageRef, packets, stream_len};
+use ogg_packets::{EntryFault, KeptEntry, PageRef, kept_packets, stream_len};
 use sequence::NoMemory;
 use std::alloc::Global;
 
@@ -42,18 +41,15 @@ pub struct ReadLinks {
 }
 
 /// How many of the entries are packets.
-fn packet_count(entries: &[Entry]) -> usize
+fn packet_count(entries: &[KeptEntry]) -> usize
     ensures { result ≡ count_by is_packet_entry entries.now }
 {
-    entries
-        .iter()
-        .filter(|entry| matches!(entry, Entry::Packet { .. }))
-        .count()
+    entries.iter().filter(|entry| entry.is_packet()).count()
 }
 
 /// The numbers of a link's stream.
 #[tactic(auto, using(crate::proofs::Counts::entry_laws))]
-fn counts_of(serial: u32, pages: &[PageRef], entries: &[Entry]) -> LinkCounts
+fn counts_of(serial: u32, pages: &[PageRef], entries: &[KeptEntry]) -> LinkCounts
     requires pages { length pages.now < 2 ^ 32 }
     requires entries { length entries.now < 2 ^ 32 }
     ensures { (bytes : List ℕ)
@@ -74,7 +70,7 @@ fn link_rows(
     alloc: Global,
     bytes: &[u8],
     heads: &Heads,
-    entries: &[Entry],
+    entries: &[KeptEntry],
 ) -> Result<LinkRows, NoMemory>
     requires lies { All (EntryLiesBefore (length bytes.now)) entries.now }
     requires fit { FitHeads heads.now }
@@ -123,7 +119,7 @@ fn read_link(
     ensures left { IfOk result (λ read. length read.held.entries.items ≤ left) }
 {
     let pages = pages_in(pages, link);
-    let entries = match packets(alloc, bytes, pages, link.serial, left) {
+    let entries = match kept_packets(alloc, bytes, pages, link.serial, left) {
         Ok(entries) => entries,
         Err(EntryFault::TooMany) => return Err(FilmFault::TooManyPackets),
         Err(EntryFault::Memory) => return Err(FilmFault::Memory),

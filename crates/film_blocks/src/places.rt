@@ -1,7 +1,6 @@
 ghost use Rattle.std.specs.Prelude.{◌≡◌, ◌+◌, ◌<◌, ◌++◌, ◌^◌, length, IfOk};
 ghost use Rattle.film_blocks.specs.Places.{block_place, block_places};
 
-use crate::ends::block_count;
 use model_line::{Row, RowKind};
 use sequence::NoMemory;
 use std::alloc::Global;
@@ -25,7 +24,7 @@ pub fn block_places(alloc: Global, rows: &[Row], first: u32) -> Result<Vec<u32>,
     requires { first + length rows.now < 2 ^ 32 }
     ensures { IfOk result (λ places. places.items ≡ block_places first rows.now) }
 {
-    let mut places = Vec::with_capacity(alloc, block_count(rows))?;
+    let mut places = Vec::with_capacity(alloc, rows.len())?;
     let mut place = first;
     for row in rows {
         push_place(&mut places, row, place)?;

@@ -153,17 +153,17 @@ const BLOCKS: [(&str, &[&[u8]], u32, u32, i64); 8] = [
 
 #[test]
 fn any_block_alone(rt: HostRuntime) -> Result<(), Fail> {
-    for (name, parts, slope, number, value) in BLOCKS {
-        let reel = reel(&rt, rt.alloc(), parts, slope)?;
-        let Some(block) = block(rt.alloc(), &reel, number)? else {
-            return Err(name)?;
+    for (name, parts, slope, number, value) in &BLOCKS {
+        let reel = reel(&rt, rt.alloc(), parts, *slope)?;
+        let Some(block) = block(rt.alloc(), &reel, *number)? else {
+            return Err(*name)?;
         };
-        assert_eq!(rt; block.key(), number, "{name}");
+        assert_eq!(rt; block.key(), *number, "{name}");
         let values = values(rt.alloc(), &block)?;
         assert_eq!(rt; values.len(), 64, "{name}");
         for (place, found) in values.iter().enumerate() {
             let expected = if place < 16 {
-                value
+                *value
             } else {
                 value.wrapping_neg()
             };

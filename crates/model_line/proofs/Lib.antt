@@ -9,5 +9,6 @@ pub mod OneIndex
 pub mod SpanLinks
 pub mod IndexLaws
 pub mod Examples
+pub mod FilmExamples
 pub mod BlockPackets
 pub mod FactsAt

@@ -1,5 +1,6 @@
 -- What entries of pieces stand for in the bytes of a file.
-use Rattle.std.specs.Prelude.{ℕ, nat_le, if◌then◌else◌, List, length, map, All, Option, Some, None, option_map, Result, Ok, Err}
+use Rattle.std.specs.Prelude.{ℕ, nat_le, if◌then◌else◌, Bool, true, false, List, [], ◌∷◌, length, map, All, Option, Some, None, option_map, Result, Ok, Err}
+use Rattle.model_ogg.specs.declared.page.Mark.{Mark}
 use Rattle.model_ogg.specs.Entries.{StreamItem, packet, lost}
 use Rattle.ogg_packets.specs.declared.entry.Entry.{Entry}
 use Rattle.ogg_packets.specs.declared.entry.Entry.TheVariants.{Packet, Lost}
@@ -16,6 +17,27 @@ item_of bytes Lost = lost
 -- the entries of a list
 abbrev pub items_of : List ℕ → List Entry → List StreamItem
 items_of bytes entries = map (item_of bytes) entries
+
+-- ---- the parts of an entry
+
+abbrev pub is_packet_entry : Entry → Bool
+is_packet_entry (Packet pieces mark) = true
+is_packet_entry Lost = false
+
+abbrev pub mark_in : Entry → Option Mark
+mark_in (Packet pieces mark) = mark
+mark_in Lost = None
+
+-- the bytes of a packet
+abbrev pub packet_in : List ℕ → Entry → Option (List ℕ)
+packet_in bytes (Packet pieces mark) = Some (joined bytes pieces)
+packet_in bytes Lost = None
+
+-- the packet of one piece
+abbrev pub whole : ℕ → ℕ → Option Mark → Entry
+whole place len mark = Packet (record { place = place; len = len } ∷ []) mark
+
+-- ---- the open packet, and where entries lie
 
 -- the bytes of the open packet
 abbrev pub pending_of : List ℕ → Option (List Piece) → Option (List ℕ)

@@ -1,2 +1,3 @@
 pub mod Pieces
 pub mod Entries
+pub mod Kept

@@ -6,6 +6,7 @@
 mod entry;
 mod fault;
 mod join;
+mod kept;
 mod list;
 mod page;
 mod pieces;
@@ -16,8 +17,9 @@ mod walk;
 pub use entry::Entry;
 pub use fault::EntryFault;
 pub use join::joined;
+pub use kept::KeptEntry;
 pub use model_ogg::{Mark, PageRef};
 pub use pieces::{Piece, Pieces};
 pub use sequence::NoMemory;
-pub use stream::packets;
+pub use stream::{kept_packets, packets};
 pub use walk::stream_len;

@@ -1,13 +1,14 @@
 ghost use Rattle.std.specs.Prelude.{◌≡◌, ◌≤◌, ◌<◌, [], ◌∷◌, ◌++◌, length, if◌then◌else◌, OnOk};
+ghost use Rattle.ogg_packets.specs.declared.entry.Entry.TheVariants.{Lost};
 
-use crate::entry::Entry;
 use crate::fault::EntryFault;
+use crate::kept::KeptEntry;
 use std::alloc::Global;
 
 /// The entries that are found so far. There are never more of them than a limit.
 #[derive(Drop)]
 pub struct EntryList {
-    found: Vec<Entry>,
+    found: Vec<KeptEntry>,
     limit: u32,
     ghost few: { length found.items ≤ limit },
 }
@@ -25,7 +26,8 @@ impl EntryList {
     }
 
     /// Adds an entry, where there are fewer than the limit.
-    pub fn add(&mut self, entry: Entry) -> Result<(), EntryFault>
+    #[inline(always)]
+    pub fn add(&mut self, entry: KeptEntry) -> Result<(), EntryFault>
         ensures limit { self.new.limit ≡ self.old.limit }
         ensures ok { OnOk result (self.new.found.items ≡ self.old.found.items ++ entry ∷ []) }
         ensures too_many { result ≡ Err EntryFault.TooMany
@@ -42,18 +44,18 @@ impl EntryList {
     pub fn add_loss(&mut self, lost: bool) -> Result<(), EntryFault>
         ensures limit { self.new.limit ≡ self.old.limit }
         ensures ok { OnOk result (self.new.found.items
-            ≡ self.old.found.items ++ (if lost then Entry.Lost ∷ [] else [])) }
+            ≡ self.old.found.items ++ (if lost then Lost ∷ [] else [])) }
         ensures too_many { result ≡ Err EntryFault.TooMany → self.old.limit
-            < length (self.old.found.items ++ (if lost then Entry.Lost ∷ [] else [])) }
+            < length (self.old.found.items ++ (if lost then Lost ∷ [] else [])) }
     {
         if lost {
-            self.add(Entry::Lost)?;
+            self.add(KeptEntry::lost())?;
         }
         Ok(())
     }
 
     /// The entries, given back.
-    pub fn into_entries(self) -> Vec<Entry>
+    pub fn into_entries(self) -> Vec<KeptEntry>
         ensures { result.items ≡ self.found.items }
     {
         let EntryList { found, .. } = self;

@@ -4,8 +4,8 @@ ghost use Rattle.model_ogg.specs.Entries.{with_segment, segments, packets_ended,
 ghost use Rattle.ogg_packets.specs.Pieces.{joined, LiesBefore};
 ghost use Rattle.ogg_packets.specs.Entries.{items_of, pending_of, PendingLiesBefore, LieBefore};
 
-use crate::entry::Entry;
 use crate::fault::EntryFault;
+use crate::kept::KeptEntry;
 use crate::list::EntryList;
 use crate::pieces::{Piece, Pieces};
 use model_ogg::Mark;
@@ -76,7 +76,8 @@ fn join_segment(
 {
     let pieces = with_piece(alloc, pending, place, lace)?;
     if lace < 255 {
-        entries.add(Entry::Packet { pieces, mark })?;
+        let entry = KeptEntry::packet(alloc, pieces, mark)?;
+        entries.add(entry)?;
         Ok(None)
     } else {
         Ok(Some(pieces))

@@ -7,10 +7,12 @@ ghost use Rattle.ogg_packets.specs.Entries.{items_of, within_limit, EntryLiesBef
 
 use crate::entry::Entry;
 use crate::fault::EntryFault;
+use crate::kept::KeptEntry;
 use crate::list::EntryList;
 use crate::page::{StreamState, read_page};
 use crate::walk::StreamPages;
 use model_ogg::PageRef;
+use sequence::NoMemory;
 use std::alloc::Global;
 
 /// Adds the entries of a stream, and says whether a packet is open at its end.
@@ -47,6 +49,42 @@ fn read_stream(
 /// # Errors
 ///
 /// `TooMany` where there are more than `limit`; `Memory` where no memory was found for them.
+pub fn kept_packets(
+    alloc: Global,
+    bytes: &[u8],
+    pages: &[PageRef],
+    serial: u32,
+    limit: u32,
+) -> Result<Vec<KeptEntry>, EntryFault>
+    requires pages { All (IsPageOf bytes.now) pages.now }
+    requires few { length bytes.now < 2 ^ 32 }
+    ensures answers { Answers EntryFault.Memory (λ entries. items_of bytes.now entries.items) result
+        (within_limit limit (stream_items bytes.now (stream_of serial pages.now))) }
+    ensures within { IfOk result (λ entries.
+        All (EntryLiesBefore (length bytes.now)) entries.items) }
+{
+    let mut entries = EntryList::new(alloc, limit);
+    let is_open = read_stream(alloc, &mut entries, bytes, pages, serial)?;
+    entries.add_loss(is_open)?;
+    Ok(entries.into_entries())
+}
+
+/// Entries that are kept, unpacked.
+fn unpacked(alloc: Global, kept: Vec<KeptEntry>) -> Result<Vec<Entry>, NoMemory>
+    ensures { IfOk result (λ entries. entries.items ≡ kept.items) }
+{
+    let mut entries = Vec::with_capacity(alloc, kept.len())?;
+    for entry in kept {
+        entries.push(entry.into_entry(alloc))?;
+    }
+    Ok(entries)
+}
+
+/// What `kept_packets` gives, as entries that a program can take apart.
+///
+/// # Errors
+///
+/// `TooMany` where there are more than `limit`; `Memory` where no memory was found for them.
 pub fn packets(
     alloc: Global,
     bytes: &[u8],
@@ -61,8 +99,7 @@ pub fn packets(
     ensures within { IfOk result (λ entries.
         All (EntryLiesBefore (length bytes.now)) entries.items) }
 {
-    let mut entries = EntryList::new(alloc, limit);
-    let is_open = read_stream(alloc, &mut entries, bytes, pages, serial)?;
-    entries.add_loss(is_open)?;
-    Ok(entries.into_entries())
+    let kept = kept_packets(alloc, bytes, pages, serial, limit)?;
+    let entries = unpacked(alloc, kept)?;
+    Ok(entries)
 }

@@ -7,6 +7,7 @@ ghost use Rattle.vf_outside.specs.declared.shelf.FetchFault.TheVariants.{Failed,
 
 use crate::shelf::{FetchFault, Shelf};
 use std::alloc::Global;
+use std::fs::OpenFile;
 use std::io::{ErrorKind, Read};
 use std::marker::Model;
 use std::rt::Files;
@@ -52,19 +53,32 @@ impl From<io::Error> for FetchFault {
 }
 
 /// The bytes up to the reader's end, where there are at most `limit` of them. No more than one byte
-/// above the limit is read.
-fn read_whole<F: Read + Drop>(alloc: Global, file: F, limit: u64) -> Result<Vec<u8>, FetchFault>
+/// above the limit is read. Where `len` is how many there are, memory is taken once.
+fn read_whole<F: Read + Drop>(
+    alloc: Global,
+    file: F,
+    len: u64,
+    limit: u64,
+) -> Result<Vec<u8>, FetchFault>
     ensures bound { IfOk result (λ bytes. vec_len bytes ≤ limit) }
     ensures bytes { IfOk result (λ bytes. IfSome (F.remaining file) (λ all. bytes.items ≡ all)) }
     ensures too_long { result ≡ Err FetchFault.TooLong
         → IfSome (F.remaining file) (λ all. limit < length all) }
 {
-    let mut bytes = Vec::new(alloc);
-    file.take(limit.saturating_add(1)).read_to_end(&mut bytes)?;
+    // a byte more than is expected, for the read that finds the end
+    let most = limit.saturating_add(1);
+    let room = len.saturating_add(1).min(most);
+    let mut bytes = Vec::with_capacity(alloc, room as usize)?;
+    file.take(most).read_to_end(&mut bytes)?;
     if bytes.len() as u64 > limit {
         return Err(FetchFault::TooLong);
     }
     Ok(bytes)
+}
+
+/// How many bytes a file has by what the system tells of it, or 0 where it tells nothing.
+fn told_len(file: &impl OpenFile) -> u64 {
+    file.metadata().map_or(0, |metadata| metadata.len())
 }
 
 /// The bytes of the file at this path, where there are at most `limit` of them.
@@ -75,7 +89,8 @@ fn read_file<R: Files>(rt: &R, alloc: Global, name: &str, limit: u64) -> Result<
         → SomeFile R.File.remaining (λ all. limit < length all) }
 {
     let file = fs::open(rt, name)?;
-    read_whole(alloc, file, limit)
+    let len = told_len(&file);
+    read_whole(alloc, file, len, limit)
 }
 
 impl<R: Files + Drop> Shelf for FileShelf<R> {
@@ -131,16 +146,16 @@ mod tests {
     fn a_reader_is_read_to_its_end(rt: HostRuntime) -> Result<(), Fail> {
         let alloc = rt.alloc();
         for limit in [3, 4, u64::MAX] {
-            let got = read_whole(alloc, b"abc".as_slice(), limit)?;
+            let got = read_whole(alloc, b"abc".as_slice(), 3, limit)?;
             assert_eq!(rt; got.as_slice(), b"abc".as_slice(), "within {limit}");
         }
-        let long = read_whole(alloc, b"abc".as_slice(), 2).err();
+        let long = read_whole(alloc, b"abc".as_slice(), 0, 2).err();
         assert_eq!(rt; long, Some(FetchFault::TooLong));
 
         // The fault of the third byte isn't met where the limit is passed before.
-        let broken = read_whole(alloc, Breaking { left: 2 }, 2).err();
+        let broken = read_whole(alloc, Breaking { left: 2 }, 9, 2).err();
         assert_eq!(rt; broken, Some(FetchFault::Failed));
-        let long = read_whole(alloc, Breaking { left: 2 }, 1).err();
+        let long = read_whole(alloc, Breaking { left: 2 }, 2, 1).err();
         assert_eq!(rt; long, Some(FetchFault::TooLong));
         Ok(())
     }

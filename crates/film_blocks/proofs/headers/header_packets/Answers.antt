@@ -1,4 +1,5 @@
 use Rattle.std.proofs.Common.{◌∙◌, ℕ, length, sym, ap}
+use Rattle.std.specs.Cow.{cow_slice_items}
 use Rattle.std.proofs.lemmas.List.{drop-map}
 use Rattle.std.proofs.lemmas.List.Elements.{All-drop}
 use Rattle.ogg_packets.specs.Entries.{item_of, items_of, EntryLiesBefore}
@@ -33,4 +34,4 @@ returns c =
     let second = rw (c.in-Some-2.is, c.after.ensures) at c.in_ok-comment.ensures in
     let third = rw (c.in-Some-3.is, c.after-2.ensures) at c.in_ok-setup.ensures in
     let same = λ (n : ℕ). ap first_packet (drop-map (item_of c.args.bytes.now) n c.args.entries.now) in
-    sym (all_there (items_of c.args.bytes.now c.args.entries.now) c.in-Some.ident.items c.in-Some-2.comment.items c.in-Some-3.setup.items (sym first) (same 1 ∙ sym second) (same 2 ∙ sym third))
+    sym (all_there (items_of c.args.bytes.now c.args.entries.now) (cow_slice_items c.in-Some.ident) (cow_slice_items c.in-Some-2.comment) (cow_slice_items c.in-Some-3.setup) (sym first) (same 1 ∙ sym second) (same 2 ∙ sym third))

@@ -1,4 +1,5 @@
 use Rattle.std.proofs.Common.{length, sym, ap, ◌∙◌}
+use Rattle.std.specs.Cow.{cow_slice_items}
 use Rattle.std.proofs.lemmas.List.{drop-map}
 use Rattle.std.proofs.lemmas.List.Elements.{All-drop}
 use Rattle.ogg_packets.specs.Entries.{item_of, items_of, EntryLiesBefore}
@@ -24,13 +25,13 @@ returns-in-Ok-clause-setup c =
     let bytes = c.args.bytes.now in
     let es = c.args.link.now.entries.items in
     let found = rw (c.in-Some.is, c.after.ensures, c.deref.ensures.value) at c.in_ok-packet.ensures in
-    let read = rw c.deref-2.ensures.value at c.in-Ok.ensures.answers in
-    setup_again c.args.link.now.counts (items_of bytes es) c.args.link.now.channels c.in-Some.packet.items c.in-Ok.setup c.requires.channels c.requires.setup (ap first_packet (drop-map (item_of bytes) 2 es) ∙ sym found) read
+    let read = rw c.as_slice.ensures.value at c.in-Ok.ensures.answers in
+    setup_again c.args.link.now.counts (items_of bytes es) c.args.link.now.channels (cow_slice_items c.in-Some.packet) c.in-Ok.setup c.requires.channels c.requires.setup (ap first_packet (drop-map (item_of bytes) 2 es) ∙ sym found) read
 
 pub unreachable-requires-in-Err-Bad : goal.unreachable-requires-in-Err-Bad
 unreachable-requires-in-Err-Bad c =
     let bytes = c.args.bytes.now in
     let es = c.args.link.now.entries.items in
     let found = rw (c.in-Some.is, c.after.ensures, c.deref.ensures.value) at c.in_ok-packet.ensures in
-    let refused = rw (c.in-Err-Bad.field-0-is, c.deref-2.ensures.value) at c.in-Err-Bad.ensures.answers in
-    never_refused c.args.link.now.channels (items_of bytes es) c.in-Some.packet.items _ c.requires.setup (ap first_packet (drop-map (item_of bytes) 2 es) ∙ sym found) (refused (λ e. cc))
+    let refused = rw (c.in-Err-Bad.field-0-is, c.as_slice.ensures.value) at c.in-Err-Bad.ensures.answers in
+    never_refused c.args.link.now.channels (items_of bytes es) (cow_slice_items c.in-Some.packet) _ c.requires.setup (ap first_packet (drop-map (item_of bytes) 2 es) ∙ sym found) (refused (λ e. cc))

@@ -4,7 +4,7 @@ use Rattle.model_ogg.proofs.PageCount.{pages_within}
 use Rattle.model_ogg.proofs.LinkLaws.{numbers_law}
 use Rattle.model_line.specs.LinkFaults.{of_links}
 use Rattle.film_blocks.proofs.LinkSteps.{by_links, by_refusal}
-use Rattle.film_blocks.proofs.ReadSteps.{film_right}
+use Rattle.film_blocks.proofs.ReadSteps.{film_right, film_blocks_few}
 use Rattle.film_blocks.proofs.FilmLines.{line_by_read, agrees_by_read}
 use Rattle.film_blocks.proofs.film.Film.open.Goals as goal
 
@@ -31,6 +31,11 @@ returns-in_err-held-clause-film c =
     let found = rw (c.deref-2.ensures.value, c.deref-3.ensures.value, c.in_ok-pages.ensures.value, c.deref.ensures.value) at c.in_ok-links.ensures.answers in
     let said = rw (c.deref-4.ensures.value, c.deref-5.ensures.value, c.deref-6.ensures.value, c.in_ok-pages.ensures.value, c.deref.ensures.value) at c.in_err-held.ensures.links in
     rw (p.1, p.2) (λ other. by_links c.args.bytes.items c.in_ok-links.links.items found ∙ said other)
+
+pub block_ends-requires : goal.block_ends-requires
+block_ends-requires c =
+    let read = rw c.deref-4.ensures.value at c.in_ok-held.ensures.read in
+    rw c.deref-7.ensures.value (film_blocks_few c.args.bytes.items c.in_ok-held.field-0.held.items c.in_ok-held.field-0.rows.items read c.in_ok-held.ensures.fits)
 
 pub invariant_of-result : goal.invariant_of-result
 invariant_of-result c =
