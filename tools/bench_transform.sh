@@ -1,9 +1,10 @@
 #!/usr/bin/env bash
 # Measures what making a block's values costs: builds a scratch program over fixed_synthesis in a temporary folder, beside
 # copies of the crates that it stands on, for the default processor and for x86-64-v3. It prints the time of reading the
-# constants, and for blocks of 256, 2,048 and 8,192 values, with all bins and with a third of them, the times of the half
-# sums bin by bin, by the product and in lanes, of the half sums as they are made, and of the whole transform: of each the
-# fastest of some rounds, and first of all what a silent block takes. It writes nothing in the repository.
+# constants, and for blocks of 256, 2,048 and 8,192 values, silent ones, with a third of the bins and with all, the times of
+# the half sums by the product, in lanes where blocks are short, and as they are made, and of the whole transform: of each the
+# fastest of some rounds. Last of all come the half sums bin by bin, which take as long for any bins. It writes nothing in the
+# repository.
 set -euo pipefail
 source "$(dirname "$(readlink -f "${BASH_SOURCE[0]}")")/scratch.sh"
 scratch_program bench_transform fixed_synthesis constants_file half_sums model_synthesis
@@ -39,6 +40,10 @@ enum Way {
     ByTheProduct,
     InLanes,
 }
+
+/// The ways in which half sums of short blocks are made, and those of long ones.
+const SHORT_WAYS: [Way; 3] = [Way::ByTheProduct, Way::InLanes, Way::AsForAFilm];
+const LONG_WAYS: [Way; 2] = [Way::ByTheProduct, Way::AsForAFilm];
 
 /// A bin of a spectrum.
 fn bin(bins: Bins, k: u64) -> i64
@@ -180,6 +185,15 @@ fn time_block(
     Ok(fastest)
 }
 
+/// The ways in which half sums of 2^levels bins are made.
+fn ways(levels: u32) -> &'static [Way] {
+    if levels <= SHORT_LEVELS {
+        &SHORT_WAYS
+    } else {
+        &LONG_WAYS
+    }
+}
+
 /// Prints the times of half sums of a spectrum.
 fn print_sums(
     rt: &HostRuntime,
@@ -195,10 +209,8 @@ fn print_sums(
     requires sums { length sums.old ≡ 2 ^ levels }
     requires bins { AreBins bins.now.items }
 {
-    let plainly = time_plainly(rt, bins, sums)?;
-    println!(rt; "2^{levels} bins, {kind:?}, half sums plainly: {plainly} ns ({})", all_of(sums))?;
-    for way in [Way::ByTheProduct, Way::InLanes, Way::AsForAFilm] {
-        let spent = time_sums(rt, constants.transforms(), way, levels, bins, sums)?;
+    for way in ways(levels) {
+        let spent = time_sums(rt, constants.transforms(), *way, levels, bins, sums)?;
         println!(rt; "2^{levels} bins, {kind:?}, half sums {way:?}: {spent} ns ({})", all_of(sums))?;
     }
     Ok(())
@@ -218,6 +230,18 @@ fn print_times(rt: &HostRuntime, constants: &Constants, kind: Bins, levels: u32)
     Ok(())
 }
 
+/// Prints the time of half sums of 2^levels bins, bin by bin.
+fn print_plainly(rt: &HostRuntime, levels: u32) -> io::Result<()>
+    requires least { 5 ≤ levels }
+    requires most { levels ≤ 12 }
+{
+    let bins = spectrum(rt.alloc(), Bins::All, levels)?;
+    let mut sums = vec![in rt.alloc(); 0i64; 1 << levels]?;
+    let spent = time_plainly(rt, &bins, &mut sums)?;
+    println!(rt; "2^{levels} bins, half sums bin by bin: {spent} ns ({})", all_of(&sums))?;
+    Ok(())
+}
+
 fn main(rt: HostRuntime) -> io::Result<()> {
     let mut bytes = b"VFCONST1".to_vec(rt.alloc())?;
     for index in 0..16608u32 {
@@ -233,6 +257,9 @@ fn main(rt: HostRuntime) -> io::Result<()> {
         print_times(&rt, &constants, kind, 10)?;
         print_times(&rt, &constants, kind, 12)?;
     }
+    print_plainly(&rt, 7)?;
+    print_plainly(&rt, 10)?;
+    print_plainly(&rt, 12)?;
     Ok(())
 }
 RATTLE
@@ -262,6 +289,5 @@ transform-requires-clause-bins c =
 PROOF
 echo "default processor"
 print_times
-sed -i 's/^bench_transform:/bench_transform cpu=x86-64-v3:/' "$work/crates.txt"
 echo "x86-64-v3"
-print_times
+print_times --cpu=x86-64-v3

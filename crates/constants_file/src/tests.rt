@@ -200,7 +200,7 @@ const COSINES: [(&str, u32, u64, i64); 12] = [
 ];
 
 /// The file that is made so.
-fn file(alloc: Global, made: Made) -> Result<Vec<u8>, AllocError> {
+fn file(alloc: Global, made: &Made) -> Result<Vec<u8>, AllocError> {
     let mut bytes = made.word.to_vec(alloc)?;
     for index in 0..NUMBERS {
         let number = if index < made.from {
@@ -217,10 +217,10 @@ fn file(alloc: Global, made: Made) -> Result<Vec<u8>, AllocError> {
 
 #[test]
 fn tells_right_files_from_others(rt: HostRuntime) -> Result<(), Fail> {
-    for (name, made, expected) in FILES {
+    for (name, made, expected) in &FILES {
         let bytes = file(rt.alloc(), made)?;
         let refused = Constants::read(rt.alloc(), &bytes).err();
-        assert_eq!(rt; refused, expected, "{name}");
+        assert_eq!(rt; refused, *expected, "{name}");
     }
     Ok(())
 }
@@ -248,15 +248,19 @@ fn cosq(constants: &Constants, exponent: u32, t: u64) -> Option<i64> {
 
 #[test]
 fn gives_the_numbers_of_the_file(rt: HostRuntime) -> Result<(), Fail> {
-    let (_, right, _) = FILES[0];
+    let (_, right, _) = &FILES[0];
     let constants = Constants::read(rt.alloc(), &file(rt.alloc(), right)?)?;
     assert_eq!(rt; constants.decibel(0), 0, "the first decibel value");
     assert_eq!(rt; constants.decibel(255), 127500, "the last decibel value");
-    for (name, exponent, place, value) in SLOPES {
-        assert_eq!(rt; slope(&constants, exponent, place), Some(value), "{name}");
+    for (name, exponent, place, value) in &SLOPES {
+        assert_eq!(rt;
+            slope(&constants, *exponent, *place),
+            Some(*value),
+            "{name}"
+        );
     }
-    for (name, exponent, t, value) in COSINES {
-        assert_eq!(rt; cosq(&constants, exponent, t), Some(value), "{name}");
+    for (name, exponent, t, value) in &COSINES {
+        assert_eq!(rt; cosq(&constants, *exponent, *t), Some(*value), "{name}");
     }
     Ok(())
 }

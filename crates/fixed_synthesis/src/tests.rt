@@ -224,19 +224,23 @@ fn taken_apart(magnitude: i64, angle: i64) -> (i64, i64) {
 
 #[test]
 fn takes_channels_apart(rt: HostRuntime) -> Result<(), Fail> {
-    for (name, magnitude, angle, first, second) in COUPLED {
-        assert_eq!(rt; taken_apart(magnitude, angle), (first, second), "{name}");
+    for (name, magnitude, angle, first, second) in &COUPLED {
+        assert_eq!(rt;
+            taken_apart(*magnitude, *angle),
+            (*first, *second),
+            "{name}"
+        );
     }
     Ok(())
 }
 
 #[test]
 fn shapes_a_residue(rt: HostRuntime) -> Result<(), Fail> {
-    for (name, decibel, value, bin) in SHAPED {
-        let constants = constants(rt.alloc(), decibel, Cosines::All(0))?;
+    for (name, decibel, value, bin) in &SHAPED {
+        let constants = constants(rt.alloc(), *decibel, Cosines::All(0))?;
         let mut out = [1];
-        shape(&constants, &[within(value)], &[255], &mut out);
-        assert_eq!(rt; out[0], bin, "{name}");
+        shape(&constants, &[within(*value)], &[255], &mut out);
+        assert_eq!(rt; out[0], *bin, "{name}");
     }
     Ok(())
 }

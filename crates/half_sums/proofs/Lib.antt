@@ -8,6 +8,7 @@ pub mod PlaceLaws
 pub mod Filled
 pub mod Bounds
 pub mod LaneLemmas
+pub mod KeptShares
 pub mod SmallSums
 pub mod SilentSums
 pub mod Whole

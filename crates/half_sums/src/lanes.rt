@@ -1,4 +1,4 @@
-ghost use Rattle.std.specs.Prelude.{◌≡◌, ◌≤◌, ◌<◌, ◌+◌, ◌*◌, ◌%◌, ◌^◌, ◌+ℤ◌, ℕ, ℤ, pos, length, slice_get, slice_index, slice_index_or, unsigned_abs, Some};
+ghost use Rattle.std.specs.Prelude.{◌≡◌, ◌≤◌, ◌<◌, ◌+◌, ◌*◌, ◌%◌, ◌^◌, ◌+ℤ◌, ℕ, ℤ, pos, List, length, slice_get, slice_index, slice_index_or, unsigned_abs, Some};
 ghost use Rattle.model_transform.specs.Products.{total};
 ghost use Rattle.model_synthesis.specs.declared.limits.TheConstants.{SPECTRUM_LIMIT};
 ghost use Rattle.half_sums.specs.declared.places.Place.{Place};
@@ -99,7 +99,7 @@ fn add_products(sums: u64x16, left: u64x16, right: u64x16) -> u64x16
     sums + left * right
 }
 
-/// Adds the share of a bin to each of the sums in lanes. A bin that is zero has none.
+/// Adds the share of a bin to each of the sums in lanes.
 #[inline(always)]
 fn add_share(sums: u64x16, magnitude: u64, waves: &[u64]) -> u64x16
     requires lanes { length sums ≡ LANES }
@@ -111,31 +111,32 @@ fn add_share(sums: u64x16, magnitude: u64, waves: &[u64]) -> u64x16
     ensures sums { (i : ℕ) → i < LANES
         → slice_index result i ≡ slice_index sums i + magnitude * slice_index waves.now i }
 {
-    if magnitude == 0 {
-        return sums;
-    }
     add_products(sums, magnitude_lanes(magnitude), wave_lanes(waves))
 }
 
-/// The sums of all shares for the powers from one on, as many as there are lanes.
+/// The sums of the first shares, so many, for the powers from one on, as many as there are lanes.
 #[inline(always)]
-fn sums_from(magnitudes: &[u64], starts: &[u64], waves: &[u64], first: usize) -> u64x16
-    requires few { length magnitudes.now ≤ 128 }
-    requires starts { length starts.now ≡ length magnitudes.now }
-    requires first { first + LANES ≤ length magnitudes.now }
-    requires room { length waves.now ≡ 3 * length magnitudes.now }
-    requires magnitudes { (b : ℕ) → b < length magnitudes.now
-        → slice_index magnitudes.now b ≤ SPECTRUM_LIMIT }
-    requires within { (b : ℕ) → b < length magnitudes.now
-        → slice_index starts.now b ≤ 2 * length magnitudes.now }
+fn sums_from(
+    magnitudes: &[u64],
+    starts: &[u64],
+    count: usize,
+    waves: &[u64],
+    first: usize,
+) -> u64x16
+    requires few { count ≤ 128 }
+    requires magnitudes { count ≤ length magnitudes.now }
+    requires starts { count ≤ length starts.now }
+    requires small { (b : ℕ) → b < count → slice_index magnitudes.now b ≤ SPECTRUM_LIMIT }
+    requires within { (b : ℕ) → b < count
+        → slice_index starts.now b + first + LANES ≤ length waves.now }
     requires waves { (k : ℕ) → slice_index waves.now k ≤ 2 ^ 24 }
     ensures lanes { length result ≡ LANES }
     ensures sums { (i : ℕ) → i < LANES
         → slice_index result i
-        ≡ share_sum magnitudes.now starts.now waves.now (length magnitudes.now) (first + i) }
+        ≡ share_sum magnitudes.now starts.now waves.now count (first + i) }
 {
     let mut sums = u64x16::splat(0);
-    for b in 0..magnitudes.len() {
+    for b in 0..count {
         sums = add_share(sums, magnitudes[b], &waves[starts[b] as usize + first..]);
     }
     sums
@@ -154,10 +155,85 @@ fn put_lanes(values: &mut [u64], first: usize, sums: u64x16)
     sums.copy_to_slice(&mut values[first..first + LANES]);
 }
 
-/// The sums of all shares for all powers.
-pub fn share_sums(values: &mut [u64], magnitudes: &[u64], starts: &[u64], waves: &[u64])
+/// The sums of the first shares, so many, for all powers.
+fn group_sums(values: &mut [u64], magnitudes: &[u64], starts: &[u64], count: usize, waves: &[u64])
+    requires few { count ≤ 128 }
+    requires lanes { length values.old % LANES ≡ 0 }
+    requires magnitudes { count ≤ length magnitudes.now }
+    requires starts { count ≤ length starts.now }
+    requires room { length waves.now ≡ 3 * length values.old }
+    requires small { (b : ℕ) → b < count → slice_index magnitudes.now b ≤ SPECTRUM_LIMIT }
+    requires within { (b : ℕ) → b < count → slice_index starts.now b ≤ 2 * length values.old }
+    requires waves { (k : ℕ) → slice_index waves.now k ≤ 2 ^ 24 }
+    ensures { (a : ℕ) → a < length values.old
+        → slice_index values.new a ≡ share_sum magnitudes.now starts.now waves.now count a }
+{
+    for group in 0..values.len() / LANES {
+        let first = LANES * group;
+        put_lanes(
+            values,
+            first,
+            sums_from(magnitudes, starts, count, waves, first),
+        );
+    }
+}
+
+/// How many bins are kept, where so many were before one of this magnitude. A bin that is zero
+/// isn't.
+#[inline(always)]
+fn count_with(count: usize, magnitude: u64) -> usize
+    requires { count < 128 }
+    ensures silent { magnitude ≡ 0 → result ≡ count }
+    ensures sounding { 0 < magnitude → result ≡ count + 1 }
+    ensures most { result ≤ count + 1 }
+{
+    if magnitude == 0 { count } else { count + 1 }
+}
+
+/// Copies the magnitudes that aren't zero, and where the waves of each begin, and returns how many
+/// they are. Their shares have the same sums as all.
+fn keep_sounding(
+    kept: &mut [u64],
+    kept_starts: &mut [u64],
+    magnitudes: &[u64],
+    starts: &[u64],
+) -> usize
+    requires few { length magnitudes.now ≤ 128 }
+    requires starts { length starts.now ≡ length magnitudes.now }
+    requires kept { length kept.old ≡ length magnitudes.now }
+    requires kept_starts { length kept_starts.old ≡ length magnitudes.now }
+    requires small { (b : ℕ) → b < length magnitudes.now
+        → slice_index magnitudes.now b ≤ SPECTRUM_LIMIT }
+    requires within { (b : ℕ) → b < length magnitudes.now
+        → slice_index starts.now b ≤ 2 * length magnitudes.now }
+    ensures most { result ≤ length magnitudes.now }
+    ensures shares { (waves : List ℕ) (a : ℕ)
+        → share_sum kept.new kept_starts.new waves result a
+        ≡ share_sum magnitudes.now starts.now waves (length magnitudes.now) a }
+    ensures small { (b : ℕ) → b < result → slice_index kept.new b ≤ SPECTRUM_LIMIT }
+    ensures within { (b : ℕ) → b < result
+        → slice_index kept_starts.new b ≤ 2 * length magnitudes.now }
+{
+    let mut count = 0;
+    for b in 0..magnitudes.len() {
+        kept[count] = magnitudes[b];
+        kept_starts[count] = starts[b];
+        count = count_with(count, magnitudes[b]);
+    }
+    count
+}
+
+/// The sums of all shares for all powers, over memory for two numbers of each bin.
+pub fn share_sums(
+    values: &mut [u64],
+    kept: &mut [u64],
+    magnitudes: &[u64],
+    starts: &[u64],
+    waves: &[u64],
+)
     requires few { length magnitudes.now ≤ 128 }
     requires values { length values.old ≡ length magnitudes.now }
+    requires kept { length kept.old ≡ 2 * length magnitudes.now }
     requires lanes { length magnitudes.now % LANES ≡ 0 }
     requires starts { length starts.now ≡ length magnitudes.now }
     requires room { length waves.now ≡ 3 * length magnitudes.now }
@@ -170,10 +246,9 @@ pub fn share_sums(values: &mut [u64], magnitudes: &[u64], starts: &[u64], waves:
         → slice_index values.new a
         ≡ share_sum magnitudes.now starts.now waves.now (length magnitudes.now) a }
 {
-    for group in 0..values.len() / LANES {
-        let first = LANES * group;
-        put_lanes(values, first, sums_from(magnitudes, starts, waves, first));
-    }
+    let (kept, kept_starts) = kept.split_at_mut(magnitudes.len());
+    let count = keep_sounding(kept, kept_starts, magnitudes, starts);
+    group_sums(values, kept, kept_starts, count, waves);
 }
 
 /// The sum of all magnitudes.

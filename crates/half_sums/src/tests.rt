@@ -322,7 +322,7 @@ fn plain_sum(cosines: &[u32], bins: &[i64], index: usize) -> i64 {
 
 #[test]
 fn sums_of_rows(rt: HostRuntime) -> Result<(), Fail> {
-    for row in ROWS {
+    for row in &ROWS {
         let name = row.name;
         let levels = row.levels;
         assert!(rt; 5 <= levels && levels <= 12, "{name}");

@@ -1,4 +1,4 @@
-ghost use Rattle.std.specs.Prelude.{◌≡◌, ◌≤◌, ◌*◌, ◌^◌, length, IfOk};
+ghost use Rattle.std.specs.Prelude.{◌≡◌, ◌≤◌, ◌*◌, ◌^◌, length, IfOk, IsTrue};
 ghost use Rattle.std.specs.List.{All};
 ghost use Rattle.model_setup.specs.HeaderPackets.{IsBlockSize};
 ghost use Rattle.model_synthesis.specs.Tables.{ConstantTables};
@@ -23,6 +23,17 @@ pub const LEAST_LEVELS: u32 = 5;
 
 /// The largest block has 2^12 bins.
 pub const MOST_LEVELS: u32 = 12;
+
+/// Whether the sums of a block are made faster in lanes: those of a short one, of which a fourth of
+/// the bins are zero. The sums are the same either way.
+fn in_lanes(levels: u32, spectrum: &[i64]) -> bool
+    ensures { IsTrue result → levels ≤ SHORT_LEVELS }
+{
+    if levels > SHORT_LEVELS {
+        return false;
+    }
+    spectrum.iter().filter(|bin| **bin == 0).count() > spectrum.len() / 4
+}
 
 /// What the half sums of blocks of each size, from 64 to 8,192 values, are made with: the cosines
 /// of a quarter turn, and what is laid out from them.
@@ -91,7 +102,7 @@ impl Transforms {
     fn lanes_over(&self, levels: u32, scratch: &mut [u64], spectrum: &[i64], sums: &mut [i64])
         requires least { LEAST_LEVELS ≤ levels }
         requires most { levels ≤ SHORT_LEVELS }
-        requires scratch { length scratch.old ≡ 3 * 2 ^ levels }
+        requires scratch { length scratch.old ≡ 5 * 2 ^ levels }
         requires spectrum { length spectrum.now ≡ 2 ^ levels }
         requires sums { length sums.old ≡ 2 ^ levels }
         requires bins { AreBins spectrum.now }
@@ -102,9 +113,10 @@ impl Transforms {
         let block = &self.blocks[(levels - LEAST_LEVELS) as usize];
         let count = spectrum.len();
         let (magnitudes, rest) = scratch.split_at_mut(count);
-        let (starts, values) = rest.split_at_mut(count);
+        let (starts, rest) = rest.split_at_mut(count);
+        let (values, kept) = rest.split_at_mut(count);
         gather_shares(magnitudes, starts, spectrum, &block.bins);
-        share_sums(values, magnitudes, starts, &block.waves);
+        share_sums(values, kept, magnitudes, starts, &block.waves);
         let raised = whole_magnitude(magnitudes) << SCALE;
         place_sums(sums, values, raised, &block.sums);
     }
@@ -120,13 +132,27 @@ impl Transforms {
             → sums.new ≡ half_sums tables (size_of levels) spectrum.now }
         ensures small { All IsSum sums.new }
     {
-        let mut scratch = [0u64; 3 << SHORT_LEVELS];
-        self.lanes_over(levels, &mut scratch[..3 * spectrum.len()], spectrum, sums);
+        let mut scratch = [0u64; 5 << SHORT_LEVELS];
+        self.lanes_over(levels, &mut scratch[..5 * spectrum.len()], spectrum, sums);
     }
 
-    /// The half sums of a block of 2^levels bins by one product of polynomials, as `half_sums`
-    /// makes those of a long block.
-    pub fn product_sums(&self, levels: u32, spectrum: &[i64], sums: &mut [i64])
+    /// The half sums of a short block by one product, over little memory.
+    fn short_product(&self, levels: u32, spectrum: &[i64], sums: &mut [i64])
+        requires least { LEAST_LEVELS ≤ levels }
+        requires most { levels ≤ SHORT_LEVELS }
+        requires spectrum { length spectrum.now ≡ 2 ^ levels }
+        requires sums { length sums.old ≡ 2 ^ levels }
+        requires bins { AreBins spectrum.now }
+        ensures values { (tables : ConstantTables) → tables.cosines ≡ self.now
+            → sums.new ≡ half_sums tables (size_of levels) spectrum.now }
+        ensures small { All IsSum sums.new }
+    {
+        let mut scratch = [0u64; 1 << SHORT_LEVELS];
+        self.sums_over(levels, &mut scratch[..spectrum.len()], spectrum, sums);
+    }
+
+    /// The half sums of any block by one product.
+    fn long_product(&self, levels: u32, spectrum: &[i64], sums: &mut [i64])
         requires least { LEAST_LEVELS ≤ levels }
         requires most { levels ≤ MOST_LEVELS }
         requires spectrum { length spectrum.now ≡ 2 ^ levels }
@@ -140,6 +166,25 @@ impl Transforms {
         self.sums_over(levels, &mut scratch[..spectrum.len()], spectrum, sums);
     }
 
+    /// The half sums of a block of 2^levels bins by one product of polynomials, as `half_sums`
+    /// makes those of a long block, and of a short one of which few bins are zero.
+    pub fn product_sums(&self, levels: u32, spectrum: &[i64], sums: &mut [i64])
+        requires least { LEAST_LEVELS ≤ levels }
+        requires most { levels ≤ MOST_LEVELS }
+        requires spectrum { length spectrum.now ≡ 2 ^ levels }
+        requires sums { length sums.old ≡ 2 ^ levels }
+        requires bins { AreBins spectrum.now }
+        ensures values { (tables : ConstantTables) → tables.cosines ≡ self.now
+            → sums.new ≡ half_sums tables (size_of levels) spectrum.now }
+        ensures small { All IsSum sums.new }
+    {
+        if levels <= SHORT_LEVELS {
+            self.short_product(levels, spectrum, sums);
+        } else {
+            self.long_product(levels, spectrum, sums);
+        }
+    }
+
     /// The sums of a block, zeros or none.
     fn sounding_sums(&self, spectrum: &[i64], sums: &mut [i64])
         requires size { IsBlockSize (2 * length spectrum.now) }
@@ -150,7 +195,7 @@ impl Transforms {
         ensures small { All IsSum sums.new }
     {
         let levels = spectrum.len().ilog2();
-        if levels <= SHORT_LEVELS {
+        if in_lanes(levels, spectrum) {
             self.lane_sums(levels, spectrum, sums);
         } else {
             self.product_sums(levels, spectrum, sums);

@@ -286,9 +286,16 @@ fn value_under_window(
 #[test]
 fn puts_windows_on_blocks(rt: HostRuntime) -> Result<(), Fail> {
     let rising = constants(rt.alloc(), 500, 0)?;
-    for (name, shape, place, expected) in WINDOWED {
-        let value = value_under_window(rt.alloc(), &rising, shape, -1_500_000_000, 300_007, place)?;
-        assert_eq!(rt; value, Some(expected), "{name}");
+    for (name, shape, place, expected) in &WINDOWED {
+        let value = value_under_window(
+            rt.alloc(),
+            &rising,
+            *shape,
+            -1_500_000_000,
+            300_007,
+            *place,
+        )?;
+        assert_eq!(rt; value, Some(*expected), "{name}");
     }
     let half = constants(rt.alloc(), 0, 1 << 22)?;
     for (name, before, after) in [("above zero", 262144, 131072), ("below", -262144, -131072)] {
@@ -321,16 +328,16 @@ fn frame_between(
 
 #[test]
 fn overlaps_halves(rt: HostRuntime) -> Result<(), Fail> {
-    for (name, right, left, number, expected) in FRAMES {
-        let value = frame_between(rt.alloc(), right, left, number)?;
-        assert_eq!(rt; value, Some(expected), "{name}");
+    for (name, right, left, number, expected) in &FRAMES {
+        let value = frame_between(rt.alloc(), *right, *left, *number)?;
+        assert_eq!(rt; value, Some(*expected), "{name}");
     }
     Ok(())
 }
 
 #[test]
 fn rounds_samples(rt: HostRuntime) {
-    for (name, value, sample) in SAMPLES {
-        assert_eq!(rt; pcm(value), sample, "{name}");
+    for (name, value, sample) in &SAMPLES {
+        assert_eq!(rt; pcm(*value), *sample, "{name}");
     }
 }

@@ -149,7 +149,7 @@ fn dense_product(rt: HostRuntime) -> Result<(), Fail> {
 #[test]
 fn products_of_terms(rt: HostRuntime) -> Result<(), Fail> {
     let multiplier = Multiplier::new(rt.alloc())?;
-    for row in TERMS {
+    for row in &TERMS {
         let name = row.name;
         let levels = row.levels;
         assert!(rt; 2 <= levels && levels <= 12, "{name}");

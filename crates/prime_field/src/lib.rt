@@ -4,7 +4,7 @@
 //! products of polynomials by halving want them.
 #![tactic(auto)]
 
-ghost use Rattle.std.specs.Prelude.{◌≡◌, ◌+◌, ◌-◌, ◌*◌, ◌%◌, ◌^◌, ◌<◌, unsigned_abs};
+ghost use Rattle.std.specs.Prelude.{◌≡◌, ◌+◌, ◌-◌, ◌*◌, ◌%◌, ◌^◌, ◌<◌, ◌≤◌, unsigned_abs};
 ghost use Rattle.prime_field.specs.Residues.{DifferenceUndoesSum, SmallNumbersDiffer, residue_of};
 ghost use Rattle.prime_field.specs.declared.TheConstants.{PRIME};
 
@@ -17,6 +17,18 @@ const HALF_WORD: u64 = 0xffff_ffff;
 /// The greatest word.
 const WORD: u128 = 0xffff_ffff_ffff_ffff;
 
+/// A word less a number up to the prime, modulo the prime, where at most one prime is in it. The
+/// compiler makes one subtraction of it, and one choice.
+#[inline(always)]
+fn less(a: u64, b: u64) -> u64
+    requires b { b ≤ PRIME }
+    requires a { a < PRIME + b }
+    ensures value { result ≡ (a + (PRIME - b)) % PRIME }
+    ensures below { result < PRIME }
+{
+    if a >= b { a - b } else { a + (PRIME - b) }
+}
+
 /// The sum of two residues.
 #[inline]
 pub fn add(a: u64, b: u64) -> u64
@@ -25,8 +37,12 @@ pub fn add(a: u64, b: u64) -> u64
     ensures value { result ≡ (a + b) % PRIME }
     ensures below { result < PRIME }
 {
-    let room = PRIME - b;
-    if a >= room { a - room } else { a + b }
+    let sum = a.wrapping_add(b);
+    if a < PRIME - b {
+        sum
+    } else {
+        sum.wrapping_add(HALF_WORD)
+    }
 }
 
 /// The difference of two residues: what makes the first one, added to the second.
@@ -37,7 +53,7 @@ pub fn subtract(a: u64, b: u64) -> u64
     ensures value { result ≡ (a + (PRIME - b)) % PRIME }
     ensures below { result < PRIME }
 {
-    if a >= b { a - b } else { a + (PRIME - b) }
+    less(a, b)
 }
 
 /// The product of two words.
@@ -76,13 +92,7 @@ fn reduce(x: u128) -> u64
     } else {
         subtract_small(low, top)
     };
-    let product = middle * HALF_WORD;
-    let room = PRIME - product;
-    if folded >= room {
-        folded - room
-    } else {
-        folded + product
-    }
+    less(folded, PRIME - middle * HALF_WORD)
 }
 
 /// A word to a power, by squaring. The power 0 of each word is 1, that of 0 too.

@@ -53,7 +53,7 @@ const ROWS: [Row; 5] = [
 
 #[test]
 fn sums_and_products(rt: HostRuntime) -> Result<(), Fail> {
-    for row in ROWS {
+    for row in &ROWS {
         let name = row.name;
         let (a, b) = row.numbers;
         assert!(rt; a < PRIME && b < PRIME, "{name}");
@@ -86,8 +86,8 @@ const POWERS: [(&str, u64, u64, u64); 6] = [
 
 #[test]
 fn powers(rt: HostRuntime) -> Result<(), Fail> {
-    for (name, base, exponent, expected) in POWERS {
-        assert_eq!(rt; power(base, exponent), expected, "{name}");
+    for (name, base, exponent, expected) in &POWERS {
+        assert_eq!(rt; power(*base, *exponent), *expected, "{name}");
     }
     Ok(())
 }
@@ -102,10 +102,10 @@ const SIGNED: [(&str, i64, u64); 4] = [
 
 #[test]
 fn signed_numbers(rt: HostRuntime) -> Result<(), Fail> {
-    for (name, number, residue) in SIGNED {
-        assert!(rt; residue < PRIME, "{name}");
-        assert_eq!(rt; from_signed(number), residue, "{name}");
-        assert_eq!(rt; to_signed(residue), number, "{name}");
+    for (name, number, residue) in &SIGNED {
+        assert!(rt; *residue < PRIME, "{name}");
+        assert_eq!(rt; from_signed(*number), *residue, "{name}");
+        assert_eq!(rt; to_signed(*residue), *number, "{name}");
     }
     Ok(())
 }

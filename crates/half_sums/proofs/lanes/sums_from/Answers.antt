@@ -7,5 +7,5 @@ add_share-sums-requires-clause-sums c i h =
     let b = c.loop-b.b in
     subst (λ x. x ≤ 2 ^ 62) (sym (c.loop-b.invariant.sums i h))
     (few_shares _ b
-    (share_sum_small c.args.magnitudes.now c.args.starts.now c.args.waves.now b (c.args.first + i) (λ k below. c.requires.magnitudes k (omega arith)) c.requires.waves)
+    (share_sum_small c.args.magnitudes.now c.args.starts.now c.args.waves.now b (c.args.first + i) (λ k below. c.requires.small k (omega arith)) c.requires.waves)
     (omega arith))

@@ -9,6 +9,9 @@ lane_sums-requires-clause-least c =
     has_levels (length c.args.spectrum.now) c.ilog2-levels.result c.requires.size c.ilog2-levels.ensures.power_le c.ilog2-levels.ensures.next_power_gt in
     is.least
 
+pub lane_sums-requires-clause-most : goal.lane_sums-requires-clause-most
+lane_sums-requires-clause-most c = c.in_lanes.ensures c.if-in_lanes.true
+
 pub lane_sums-requires-clause-spectrum : goal.lane_sums-requires-clause-spectrum
 lane_sums-requires-clause-spectrum c =
     let is : HasLevels (length c.args.spectrum.now) c.ilog2-levels.result =
@@ -20,6 +23,12 @@ lane_sums-requires-clause-sums c =
     let is : HasLevels (length c.args.spectrum.now) c.ilog2-levels.result =
     has_levels (length c.args.spectrum.now) c.ilog2-levels.result c.requires.size c.ilog2-levels.ensures.power_le c.ilog2-levels.ensures.next_power_gt in
     c.requires.sums ∙ is.is_power
+
+pub product_sums-requires-clause-least : goal.product_sums-requires-clause-least
+product_sums-requires-clause-least c =
+    let is : HasLevels (length c.args.spectrum.now) c.ilog2-levels.result =
+    has_levels (length c.args.spectrum.now) c.ilog2-levels.result c.requires.size c.ilog2-levels.ensures.power_le c.ilog2-levels.ensures.next_power_gt in
+    is.least
 
 pub product_sums-requires-clause-most : goal.product_sums-requires-clause-most
 product_sums-requires-clause-most c =
@@ -39,14 +48,14 @@ product_sums-requires-clause-sums c =
     has_levels (length c.args.spectrum.now) c.ilog2-levels.result c.requires.size c.ilog2-levels.ensures.power_le c.ilog2-levels.ensures.next_power_gt in
     c.requires.sums ∙ is.is_power
 
-pub returns-then-levels-le-SHORT_LEVELS-clause-values : goal.returns-then-levels-le-SHORT_LEVELS-clause-values
-returns-then-levels-le-SHORT_LEVELS-clause-values c tables same =
+pub returns-then-in_lanes-clause-values : goal.returns-then-in_lanes-clause-values
+returns-then-in_lanes-clause-values c tables same =
     let is : HasLevels (length c.args.spectrum.now) c.ilog2-levels.result =
     has_levels (length c.args.spectrum.now) c.ilog2-levels.result c.requires.size c.ilog2-levels.ensures.power_le c.ilog2-levels.ensures.next_power_gt in
     subst (λ n. c.lane_sums.new.sums ≡ half_sums tables (2 * n) c.args.spectrum.now) (sym is.is_power) (c.lane_sums.ensures.values tables same)
 
-pub returns-else-levels-le-SHORT_LEVELS-clause-values : goal.returns-else-levels-le-SHORT_LEVELS-clause-values
-returns-else-levels-le-SHORT_LEVELS-clause-values c tables same =
+pub returns-else-in_lanes-clause-values : goal.returns-else-in_lanes-clause-values
+returns-else-in_lanes-clause-values c tables same =
     let is : HasLevels (length c.args.spectrum.now) c.ilog2-levels.result =
     has_levels (length c.args.spectrum.now) c.ilog2-levels.result c.requires.size c.ilog2-levels.ensures.power_le c.ilog2-levels.ensures.next_power_gt in
     subst (λ n. c.product_sums.new.sums ≡ half_sums tables (2 * n) c.args.spectrum.now) (sym is.is_power) (c.product_sums.ensures.values tables same)
