@@ -6,4 +6,5 @@ pub mod Counting
 pub mod Standing
 pub mod Shapes
 pub mod ByOrigins
+pub mod ChannelReads
 pub mod Examples

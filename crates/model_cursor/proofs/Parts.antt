@@ -14,3 +14,9 @@ values_of-parts_of zero size values e = none_left values (omega arith)
 values_of-parts_of (suc count) size values e =
     let rest : length (drop size values) ≡ count * size = omega (arith, length-drop size values) in
     ap (λ (vs : List ℤ). take size values ++ vs) (values_of-parts_of count size (drop size values) rest) ∙ take-append-drop size values
+
+-- there are so many parts
+pub length-parts_of : {A : Type 0} (count size : ℕ) (xs : List A) → length (parts_of count size xs) ≡ count
+unfolding parts_of
+length-parts_of zero size xs = refl
+length-parts_of (suc count) size xs = ap suc (length-parts_of count size (drop size xs))

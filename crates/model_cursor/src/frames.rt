@@ -12,14 +12,15 @@ pub struct Frames {
 }
 
 impl Model for Frames {
-    ghost use Rattle.std.specs.Prelude.{◌≡◌, List, ℤ, length};
+    ghost use Rattle.std.specs.Prelude.{◌≡◌, ◌<◌, List, ℤ, length};
     ghost use Rattle.model_cursor.specs.FrameLists.{frames_in, values_of};
 
     ghost Value = { List (List ℤ) };
 
     ghost view = { λ f. frames_in f.channels f.values.items };
 
-    ghost invariant = { λ f. values_of (frames_in f.channels f.values.items) ≡ f.values.items };
+    ghost invariant = { λ f. (0 < f.channels)
+        × (values_of (frames_in f.channels f.values.items) ≡ f.values.items) };
 }
 
 impl Frames {
@@ -38,5 +39,12 @@ impl Frames {
         ensures { result.now ≡ values_of self.now }
     {
         &self.values
+    }
+
+    /// How many frames there are.
+    pub fn count(&self) -> usize
+        ensures { result ≡ length self.now }
+    {
+        self.values.len() / usize::from(self.channels)
     }
 }

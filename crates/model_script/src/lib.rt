@@ -1,0 +1,13 @@
+//! Scripts: which commands a player is told, in which lanes; why a script is refused; and what is
+//! written of the answers to its commands.
+#![tactic(auto)]
+
+mod command;
+mod fault;
+mod laws;
+mod limits;
+
+pub use command::{Answer, Command, Line, Verb};
+pub use fault::{LineCause, ScriptFault, Which};
+pub use laws::numbers_are_written;
+pub use limits::{GREATEST_CURSOR, GREATEST_READ, LINE_FEED, MOST_FRAMES, MOST_LANES, SPACE};

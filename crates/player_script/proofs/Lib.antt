@@ -1,0 +1,11 @@
+pub mod Firsts
+pub mod LaneSteps
+pub mod Splits
+pub mod WordSteps
+pub mod LineSteps
+pub mod ScriptSteps
+pub mod SampleSteps
+pub mod Limits
+pub mod NumberWords
+pub mod ScriptForms
+pub mod Bodies
