@@ -1,4 +1,5 @@
 pub mod FilmLines
 pub mod Links
 pub mod Dumps
+pub mod FilmHalves
 pub mod Laws

@@ -1,0 +1,3 @@
+pub mod Lanes
+pub mod Reports
+pub mod Laws

@@ -1,0 +1,2 @@
+pub mod FilmCursors
+pub mod LaneSteps

@@ -1,0 +1,2 @@
+pub mod PlainHalves
+pub mod Playing

@@ -1,0 +1,24 @@
+-- What is played, and the cursors of a lane as they are kept.
+use Rattle.std.specs.Prelude.{List, map, All, Option, option_map, IfSome}
+use Rattle.model_synthesis.specs.Tables.{ConstantTables, AreTables}
+use Rattle.model_line.specs.declared.item.Item.{Item}
+use Rattle.model_line.specs.Acceptance.{FilmLink}
+use Rattle.model_line.specs.PacketRows.{rows_of}
+use Rattle.model_line.specs.Index.{Indexed, Indexes}
+use Rattle.model_cursor.specs.Positions.{Position, IsPosition, state_in}
+use Rattle.model_film.specs.Links.{IsLink}
+use Rattle.model_report.specs.Lanes.{LaneCursor}
+
+-- constants as a right file has them, the links of an accepted film, and the index of its line
+pub record CanBePlayed (tables : ConstantTables) (links : List FilmLink) (index : Indexed)
+    : Type 0 where
+  pub right : AreTables tables
+  pub accepted : All IsLink links
+  pub indexed : Indexes (map rows_of links) index
+
+-- the state of a cursor that is closed, or open at a position of the line that items list
+abbrev pub state_at : List Item → Option Position → LaneCursor
+state_at items cursor = option_map (state_in items) cursor
+
+abbrev pub IsAt : List Item → Option Position → Type 0
+IsAt items cursor = IfSome cursor (IsPosition items)

@@ -1,0 +1,18 @@
+//! Plays scripts over a film: answers the commands of each lane, with halves of blocks that are
+//! decoded where they are needed.
+#![tactic(auto)]
+
+mod answers;
+mod lane;
+mod lanes;
+mod plain;
+
+pub use film_blocks::{Constants, Film, Reel};
+pub use lane::Text;
+pub use lanes::{Report, play};
+pub use plain::PlainBlocks;
+pub use player_script::Script;
+pub use sequence::NoMemory;
+
+#[cfg(test)]
+mod tests;
