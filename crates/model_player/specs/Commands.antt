@@ -7,13 +7,16 @@ use Rattle.model_player.specs.declared.status.Status.TheVariants as statuses
 -- a command, with the names of its files
 pub data Command : Type 0 where
   info : List ℕ → Command
+  dump : List ℕ → List ℕ → Command
 
 -- the command of the words after the program's name, where they are one
 abbrev pub command_of : List (List ℕ) → Option Command
 command_of [] = None
 command_of (word ∷ []) = None
 command_of (word ∷ film ∷ []) = if bytes_eq word (codes "info") then Some (info film) else None
-command_of (word ∷ film ∷ more ∷ words) = None
+command_of (word ∷ constants ∷ film ∷ []) =
+    if bytes_eq word (codes "dump") then Some (dump constants film) else None
+command_of (word ∷ first ∷ second ∷ third ∷ words) = None
 
 -- the exit code of a status
 abbrev pub exit_code : Status → ℕ

@@ -1,21 +1,18 @@
 -- What a run of the program answers, what it writes, and when.
-use Rattle.std.specs.Prelude.{◌≡◌, ℕ, ◌≤◌, ◌⊎◌, nat_lt, if◌then◌else◌, List, length, Option, Some, None, Result, Ok, Err}
+use Rattle.std.specs.Prelude.{◌≡◌, ℕ, ◌<◌, ◌≤◌, ◌⊎◌, List, length, Option, Some, None}
 use Rattle.std.specs.Io.KnownBytes.{Appends, Keeps}
 use Rattle.vf_outside.specs.Told.{Told, MayGive, MayBeTooLong, AppendsPart}
 use Rattle.vf_outside.specs.Faults.{Rose}
-use Rattle.model_line.specs.declared.film.FilmFault.{FilmFault}
-use Rattle.model_line.specs.Acceptance.{FilmLink, film_of}
-use Rattle.model_player.specs.declared.limits.TheConstants.{FILM_LIMIT}
 use Rattle.model_player.specs.declared.status.Status.{Status}
 use Rattle.model_player.specs.declared.status.Status.TheVariants as statuses
-use Rattle.model_player.specs.Commands.{Command, info}
-use Rattle.model_player.specs.Texts.{usage_line, memory_line, cannot_read_line, too_long_line, fault_line, info_text}
+use Rattle.model_player.specs.Commands.{Command}
+use Rattle.model_player.specs.Texts.{memory_line, cannot_read_line, too_long_line}
+use Rattle.model_player.specs.Courses.{Puts, in_parts, Duty, writes, refuses, Course, comes_to, reads, course_of}
 
 -- ---- what waits for later commands
 
--- No command so far reads a constants file or a script, so no run ends with status 4 or 6. None
--- takes part in threads, so `player_alone` answers None to none of them, and no gate is reached at
--- a point. This is what is said of each of these.
+-- No command so far takes part in threads, so `player_alone` answers None to none of them, and no
+-- gate is reached at a point. This is what is said of both.
 abbrev pub Waits : Type 0
 Waits = ⊥
 
@@ -52,10 +49,13 @@ sink_run written faults old new = record {
 abbrev pub Gains : SinkRun → List ℕ → Type 0
 Gains sink bytes = Appends sink.before sink.after bytes
 
+-- the sink has gained a front of these bytes
+abbrev pub Begins : SinkRun → List ℕ → Type 0
+Begins sink bytes = AppendsPart sink.before sink.after bytes
+
 -- the sink failed, and has gained a front of these bytes
 abbrev pub Breaks : SinkRun → List ℕ → Type 0
-Breaks sink bytes =
-    Rose sink.faults_before sink.faults_after × AppendsPart sink.before sink.after bytes
+Breaks sink bytes = Rose sink.faults_before sink.faults_after × Begins sink bytes
 
 -- the sink holds what it held
 abbrev pub IsKept : SinkRun → Type 0
@@ -65,98 +65,96 @@ IsKept sink = Keeps sink.before sink.after
 abbrev pub Tries : SinkRun → List ℕ → Type 0
 Tries sink bytes = Gains sink bytes ⊎ (Breaks sink bytes ⊎ IsKept sink)
 
+-- ---- what may be due
+
+-- The bytes that a file may have, by what is told of its name, within its limit.
+pub record MayHave (told : Told) (limit : ℕ) (bytes : List ℕ) : Type 0 where
+  pub given : MayGive told bytes
+  pub short : length bytes ≤ limit
+
+-- the refusals of a file that cannot be read, and of one with more bytes than its limit
+abbrev pub unread : List ℕ → Duty
+unread name = refuses statuses.Input (cannot_read_line name)
+
+abbrev pub too_long : List ℕ → ℕ → Duty
+too_long name limit = refuses statuses.TooLong (too_long_line name limit)
+
+-- A file may be the reason of a refusal before its bytes are known: its count of faults rose, or it
+-- may have more bytes than its limit.
+abbrev pub MayFail : ShelfRun → List ℕ → ℕ → Duty → Type 0
+MayFail shelf name limit duty =
+    ((duty ≡ unread name) × Rose (shelf.faults_before name) (shelf.faults_after name))
+    ⊎ ((duty ≡ too_long name limit) × MayBeTooLong (shelf.told name) limit)
+
+-- A course may come to a duty: by bytes that the files may have which it reads, or by one of them
+-- that fails.
+abbrev pub MayComeTo : Course → ShelfRun → Duty → Type 0
+MayComeTo (comes_to due) shelf duty = duty ≡ due
+MayComeTo (reads name limit next) shelf duty = MayFail shelf name limit duty
+    ⊎ ((bytes : List ℕ) × MayHave (shelf.told name) limit bytes
+    × MayComeTo (next bytes) shelf duty)
+
 -- ---- what each status says
 
--- The bytes that a film has, by what is told of its name, within its limit.
-pub record MayHave (told : Told) (film : List ℕ) : Type 0 where
-  pub given : MayGive told film
-  pub short : length film ≤ FILM_LIMIT
+-- The output was due, and is on `out`.
+abbrev pub Written : Course → ShelfRun → SinkRun → SinkRun → Type 0
+Written course shelf out notes = (puts : Puts) × (bytes : List ℕ)
+    × MayComeTo course shelf (writes puts bytes) × Gains out bytes × IsKept notes
 
--- The output of a command is due: the film may have bytes that are taken, and these are its lines.
-abbrev pub OutputDue : Option Command → ShelfRun → List ℕ → Type 0
-OutputDue None shelf bytes = ⊥
-OutputDue (Some (info name)) shelf bytes =
-    (film : List ℕ) × (links : List FilmLink) × MayHave (shelf.told name) film
-    × (film_of film ≡ Ok links) × (bytes ≡ info_text links)
-
--- A refusal with this status and this line is due, for this cause.
-abbrev pub RefusalDue : Option Command → ShelfRun → Status → List ℕ → Type 0
-RefusalDue None shelf statuses.Usage line = line ≡ usage_line
-RefusalDue (Some (info name)) shelf statuses.Input line =
-    Rose (shelf.faults_before name) (shelf.faults_after name) × (line ≡ cannot_read_line name)
-RefusalDue (Some (info name)) shelf statuses.TooLong line =
-    MayBeTooLong (shelf.told name) FILM_LIMIT × (line ≡ too_long_line name FILM_LIMIT)
-RefusalDue (Some (info name)) shelf statuses.Film line =
-    (film : List ℕ) × (fault : FilmFault) × MayHave (shelf.told name) film
-    × (film_of film ≡ Err fault) × (line ≡ fault_line fault)
-RefusalDue command shelf status line = ⊥
-
--- A refusal: its line is on `notes`, and nothing on `out`.
-abbrev pub Refused : Option Command → ShelfRun → SinkRun → SinkRun → Status → Type 0
-Refused command shelf out notes status =
-    (line : List ℕ) × RefusalDue command shelf status line × Gains notes line × IsKept out
+-- A refusal was due: its line is on `notes`, and nothing on `out`.
+abbrev pub Refused : Course → ShelfRun → SinkRun → SinkRun → Status → Type 0
+Refused course shelf out notes status = (line : List ℕ)
+    × MayComeTo course shelf (refuses status line) × Gains notes line × IsKept out
 
 -- A sink failed: the output was due, and a front of it is on `out`; or the line of a refusal was,
 -- and a front of it is on `notes`.
-abbrev pub Broken : Option Command → ShelfRun → SinkRun → SinkRun → Type 0
-Broken command shelf out notes =
-    ((bytes : List ℕ) × OutputDue command shelf bytes × Breaks out bytes × IsKept notes)
-    ⊎ ((status : Status) × (line : List ℕ) × RefusalDue command shelf status line
+abbrev pub Broken : Course → ShelfRun → SinkRun → SinkRun → Type 0
+Broken course shelf out notes =
+    ((puts : Puts) × (bytes : List ℕ) × MayComeTo course shelf (writes puts bytes)
+    × Breaks out bytes × IsKept notes)
+    ⊎ ((status : Status) × (line : List ℕ) × MayComeTo course shelf (refuses status line)
     × Breaks notes line × IsKept out)
 
--- What each status says of the command, the shelf and the two sinks. Where memory runs out, nothing
--- is on `out`, and the line `memory` is tried on `notes`: for the film, the output and the line of
--- a refusal alike.
-abbrev pub Outcome : Option Command → ShelfRun → SinkRun → SinkRun → Status → Type 0
-Outcome command shelf out notes statuses.Ok =
-    (bytes : List ℕ) × OutputDue command shelf bytes × Gains out bytes × IsKept notes
-Outcome command shelf out notes statuses.Usage = Refused command shelf out notes statuses.Usage
-Outcome command shelf out notes statuses.Input = Refused command shelf out notes statuses.Input
-Outcome command shelf out notes statuses.Constants = Waits
-Outcome command shelf out notes statuses.Film = Refused command shelf out notes statuses.Film
-Outcome command shelf out notes statuses.Script = Waits
-Outcome command shelf out notes statuses.Output = Broken command shelf out notes
-Outcome command shelf out notes statuses.Memory = Tries notes memory_line × IsKept out
-Outcome command shelf out notes statuses.TooLong = Refused command shelf out notes statuses.TooLong
+-- Memory ran out before the output was whole: nothing is on `out`, or a front of an output that is
+-- written in parts. The line `memory` was tried on `notes`.
+abbrev pub LeftOff : Course → ShelfRun → SinkRun → SinkRun → Type 0
+LeftOff course shelf out notes = Tries notes memory_line
+    × (IsKept out ⊎ ((bytes : List ℕ) × MayComeTo course shelf (writes in_parts bytes)
+    × Begins out bytes))
+
+-- What each status says of a command's course, the shelf and the two sinks.
+abbrev pub Outcome : Course → ShelfRun → SinkRun → SinkRun → Status → Type 0
+Outcome course shelf out notes statuses.Ok = Written course shelf out notes
+Outcome course shelf out notes statuses.Output = Broken course shelf out notes
+Outcome course shelf out notes statuses.Memory = LeftOff course shelf out notes
+Outcome course shelf out notes status = Refused course shelf out notes status
 
 -- ---- where nothing fails
 
--- what a command must lead to: its output, or the status and the line of a refusal
-pub data Duty : Type 0 where
-  writes : List ℕ → Duty
-  refuses : Status → List ℕ → Duty
+-- the shelf tells the bytes of a file, and its count of faults did not rise
+pub record ReadsWell (shelf : ShelfRun) (name bytes : List ℕ) : Type 0 where
+  pub told : shelf.told name ≡ Some (Some bytes)
+  pub well : ¬ Rose (shelf.faults_before name) (shelf.faults_after name)
 
-abbrev pub info_duty : Result (List FilmLink) FilmFault → Duty
-info_duty (Ok links) = writes (info_text links)
-info_duty (Err fault) = refuses statuses.Film (fault_line fault)
-
-abbrev pub film_duty : List ℕ → List ℕ → Duty
-film_duty name film = if nat_lt FILM_LIMIT (length film)
-    then refuses statuses.TooLong (too_long_line name FILM_LIMIT) else info_duty (film_of film)
-
--- of words, and of the film's bytes where the words name a film
-abbrev pub duty_of : Option Command → List ℕ → Duty
-duty_of None film = refuses statuses.Usage usage_line
-duty_of (Some (info name)) film = film_duty name film
-
--- the shelf tells the bytes of the command's film, and its count for that name did not rise
-abbrev pub ReadsWell : Option Command → ShelfRun → List ℕ → Type 0
-ReadsWell None shelf film = Unit {0}
-ReadsWell (Some (info name)) shelf film = (shelf.told name ≡ Some (Some film))
-    × ¬ Rose (shelf.faults_before name) (shelf.faults_after name)
+-- A course must come to a duty: all files read well that it reads on the way, and lead to it.
+abbrev pub MustComeTo : Course → ShelfRun → Duty → Type 0
+MustComeTo (comes_to due) shelf duty = duty ≡ due
+MustComeTo (reads name limit next) shelf duty = (bytes : List ℕ) × ReadsWell shelf name bytes
+    × (((limit < length bytes) × (duty ≡ too_long name limit))
+    ⊎ ((length bytes ≤ limit) × MustComeTo (next bytes) shelf duty))
 
 -- the duty was done
 abbrev pub Does : Duty → SinkRun → SinkRun → Status → Type 0
-Does (writes bytes) out notes status = (status ≡ statuses.Ok) × Gains out bytes × IsKept notes
+Does (writes puts bytes) out notes status =
+    (status ≡ statuses.Ok) × Gains out bytes × IsKept notes
 Does (refuses due line) out notes status = (status ≡ due) × Gains notes line × IsKept out
 
--- Where the film's bytes are told and no count of faults rose, the duty was done, or memory ran
+-- Where all files read well and no sink's count of faults rose, the duty was done, or memory ran
 -- out.
-abbrev pub Completes : Option Command → ShelfRun → SinkRun → SinkRun → Status → Type 0
-Completes command shelf out notes status =
-    (film : List ℕ) → ReadsWell command shelf film
+abbrev pub Completes : Course → ShelfRun → SinkRun → SinkRun → Status → Type 0
+Completes course shelf out notes status = (duty : Duty) → MustComeTo course shelf duty
     → ¬ Rose out.faults_before out.faults_after → ¬ Rose notes.faults_before notes.faults_after
-    → Does (duty_of command film) out notes status ⊎ (status ≡ statuses.Memory)
+    → Does duty out notes status ⊎ (status ≡ statuses.Memory)
 
 -- ---- a run
 
@@ -164,6 +162,6 @@ Completes command shelf out notes status =
 -- only words that are no command are answered as such.
 pub record Runs (command : Option Command) (shelf : ShelfRun) (out notes : SinkRun)
     (status : Status) : Type 0 where
-  pub outcome : Outcome command shelf out notes status
-  pub completes : Completes command shelf out notes status
+  pub outcome : Outcome (course_of command) shelf out notes status
+  pub completes : Completes (course_of command) shelf out notes status
   pub usage : status ≡ statuses.Usage → command ≡ None

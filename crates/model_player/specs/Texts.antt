@@ -2,6 +2,8 @@
 use Rattle.std.specs.Prelude.{ℕ, List, [], ◌∷◌, ◌++◌, codes}
 use Rattle.std.specs.Fmt.{decimal}
 use Rattle.std.specs.List.{flat_map, enumerate_from}
+use Rattle.model_synthesis.specs.declared.constants.ConstantsFault.{ConstantsFault}
+use Rattle.model_synthesis.specs.ConstantsTexts.{constants_fault_text}
 use Rattle.model_line.specs.declared.film.LinkCounts.{LinkCounts}
 use Rattle.model_line.specs.declared.film.FilmFault.{FilmFault}
 use Rattle.model_line.specs.declared.item.LinkFacts.{LinkFacts}
@@ -77,6 +79,10 @@ cannot_read_line name = codes "cannot read " ++ (name ++ line_end)
 -- a file with more bytes than its limit
 abbrev pub too_long_line : List ℕ → ℕ → List ℕ
 too_long_line name limit = codes "too long " ++ (name ++ (codes " " ++ (decimal limit ++ line_end)))
+
+-- a constants file that is refused
+abbrev pub constants_fault_line : ConstantsFault → List ℕ
+constants_fault_line fault = constants_fault_text fault ++ line_end
 
 -- a film that is refused
 abbrev pub fault_line : FilmFault → List ℕ

@@ -5,5 +5,5 @@
 mod limits;
 mod status;
 
-pub use limits::FILM_LIMIT;
+pub use limits::{CONSTANTS_LIMIT, FILM_LIMIT};
 pub use status::Status;

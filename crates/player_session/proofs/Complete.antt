@@ -1,66 +1,91 @@
 -- Where nothing fails, the duty was done.
-use Rattle.std.proofs.Common.{◌≡◌, ℕ, ◌≤◌, ◌<◌, List, length, Option, Some, None, Ok, Err, refl, sym, ap, subst, ◌∙◌, inl, inr}
-use Rattle.std.proofs.lemmas.Bool.{lt-ltb, le-ltb}
+use Rattle.std.proofs.Common.{◌≡◌, ◌≢◌, ℕ, ◌≤◌, ◌<◌, List, length, Option, Some, None, Result, Ok, Err, refl, sym, ap, subst, ◌∙◌, inl, inr, arith}
+use Rattle.std.specs.Prelude.{◌⊎◌}
 use Rattle.vf_outside.specs.Told.{Told, MayBeTooLong}
 use Rattle.model_player.specs.declared.status.Status.{Status}
 use Rattle.model_player.specs.declared.status.Status.TheVariants as statuses
-use Rattle.model_player.specs.Commands.{Command, info}
 use Rattle.model_line.specs.Acceptance.{film_of}
-use Rattle.model_player.specs.declared.limits.TheConstants.{FILM_LIMIT}
-use Rattle.model_player.specs.Outcome.{ShelfRun, SinkRun, MayHave, Gains, Outcome, Completes, Runs}
+use Rattle.model_synthesis.specs.ConstantsFile.{constants_of}
+use Rattle.model_player.specs.Commands.{Command, info, dump}
+use Rattle.model_player.specs.Courses.{Duty, writes, refuses, Course, comes_to, reads, judged, constants_refusal, film_refusal, reads_film, course_of}
+use Rattle.model_player.specs.Outcome.{ShelfRun, SinkRun, MayHave, MayComeTo, MustComeTo, too_long, Does, Outcome, Completes, Runs}
 
--- the film is the one that is told
-same_film : (t : Told) (film other : List ℕ) → t ≡ Some (Some film) → MayHave t other → other ≡ film
-same_film t film other e h = let given = rw e at h.given in given
+-- ---- what may be due is what must be
 
-is_long : (t : Told) (film : List ℕ) → t ≡ Some (Some film) → MayBeTooLong t FILM_LIMIT → FILM_LIMIT < length film
-is_long t film e h = let long = rw e at h in long
+-- a file is the one that is told
+same_file : (t : Told) (limit : ℕ) (told other : List ℕ) → t ≡ Some (Some told) → MayHave t limit other → other ≡ told
+same_file t limit told other e h = let given = rw e at h.given in given
 
-complete : (command : Option Command) (shelf : ShelfRun) (out notes : SinkRun) (status : Status) → Outcome command shelf out notes status → Completes command shelf out notes status
-complete None shelf out notes statuses.Ok o = absurd o.1
-complete (Some (info name)) shelf out notes statuses.Ok o = λ film told no-out no-notes.
-    let due = o.1 in
-    let same = same_film (shelf.told name) film due.0 told.0 due.2 in
-    let looked : film_of film ≡ Ok due.1 = ap film_of (sym same) ∙ due.3 in
-    let short : length film ≤ FILM_LIMIT = subst (λ (f : List ℕ). length f ≤ FILM_LIMIT) same due.2.short in
-    inl (rw (le-ltb FILM_LIMIT (length film) short, looked) (refl, subst (λ (b : List ℕ). Gains out b) due.4 o.2, o.3))
-complete None shelf out notes statuses.Usage o = λ film told no-out no-notes. inl (refl, subst (λ (b : List ℕ). Gains notes b) o.1 o.2, o.3)
-complete (Some (info name)) shelf out notes statuses.Usage o = absurd o.1
-complete None shelf out notes statuses.Input o = absurd o.1
-complete (Some (info name)) shelf out notes statuses.Input o = λ film told no-out no-notes. absurd (told.1 o.1.0)
-complete None shelf out notes statuses.TooLong o = absurd o.1
-complete (Some (info name)) shelf out notes statuses.TooLong o = λ film told no-out no-notes.
-    let long = is_long (shelf.told name) film told.0 o.1.0 in
-    inl (rw (lt-ltb FILM_LIMIT (length film) long) (refl, subst (λ (b : List ℕ). Gains notes b) o.1.1 o.2, o.3))
-complete None shelf out notes statuses.Film o = absurd o.1
-complete (Some (info name)) shelf out notes statuses.Film o = λ film told no-out no-notes.
-    let due = o.1 in
-    let same = same_film (shelf.told name) film due.0 told.0 due.2 in
-    let looked : film_of film ≡ Err due.1 = ap film_of (sym same) ∙ due.3 in
-    let short : length film ≤ FILM_LIMIT = subst (λ (f : List ℕ). length f ≤ FILM_LIMIT) same due.2.short in
-    inl (rw (le-ltb FILM_LIMIT (length film) short, looked) (refl, subst (λ (b : List ℕ). Gains notes b) due.4 o.2, o.3))
-complete command shelf out notes statuses.Output (inl broken) = λ film told no-out no-notes. absurd (no-out broken.2.0)
-complete command shelf out notes statuses.Output (inr broken) = λ film told no-out no-notes. absurd (no-notes broken.3.0)
-complete command shelf out notes statuses.Memory o = λ film told no-out no-notes. inr refl
-complete command shelf out notes statuses.Constants o = absurd o
-complete command shelf out notes statuses.Script o = absurd o
+is_long : (t : Told) (limit : ℕ) (told : List ℕ) → t ≡ Some (Some told) → MayBeTooLong t limit → limit < length told
+is_long t limit told e h = let long = rw e at h in long
 
--- only words that are no command are answered as such
-usage : (command : Option Command) (shelf : ShelfRun) (out notes : SinkRun) (status : Status) → Outcome command shelf out notes status → status ≡ statuses.Usage → command ≡ None
+determined : (course : Course) (shelf : ShelfRun) (may must : Duty) → MayComeTo course shelf may → MustComeTo course shelf must → may ≡ must
+determined (comes_to due) shelf may must a b = a ∙ sym b
+determined (reads name limit next) shelf may must (inl (inl (e, rose))) (told, well, way) = absurd (well.well rose)
+determined (reads name limit next) shelf may must (inl (inr (e, long))) (told, well, inl (over, is)) = e ∙ sym is
+determined (reads name limit next) shelf may must (inl (inr (e, long))) (told, well, inr (short, way)) =
+    let over = is_long (shelf.told name) limit told well.told long in
+    absurd (omega arith)
+determined (reads name limit next) shelf may must (inr (bytes, have, due)) (told, well, inl (over, is)) =
+    let same : length bytes ≡ length told = ap length (same_file (shelf.told name) limit told bytes well.told have) in
+    let short : length bytes ≤ limit = have.short in
+    absurd (omega arith)
+determined (reads name limit next) shelf may must (inr (bytes, have, due)) (told, well, inr (short, way)) =
+    let same = same_file (shelf.told name) limit told bytes well.told have in
+    determined (next told) shelf may must (subst (λ (bs : List ℕ). MayComeTo (next bs) shelf may) same due) way
+
+complete : (course : Course) (shelf : ShelfRun) (out notes : SinkRun) (status : Status) → Outcome course shelf out notes status → Completes course shelf out notes status
+complete course shelf out notes statuses.Ok (puts, bytes, due, gains, kept) = λ duty must no-out no-notes.
+    inl (subst (λ (d : Duty). Does d out notes statuses.Ok) (determined course shelf (writes puts bytes) duty due must) (refl, gains, kept))
+complete course shelf out notes statuses.Output (inl broken) = λ duty must no-out no-notes. absurd (no-out broken.3.0)
+complete course shelf out notes statuses.Output (inr broken) = λ duty must no-out no-notes. absurd (no-notes broken.3.0)
+complete course shelf out notes statuses.Memory o = λ duty must no-out no-notes. inr refl
+complete course shelf out notes statuses.Usage (line, due, gains, kept) = λ duty must no-out no-notes.
+    inl (subst (λ (d : Duty). Does d out notes statuses.Usage) (determined course shelf (refuses statuses.Usage line) duty due must) (refl, gains, kept))
+complete course shelf out notes statuses.Input (line, due, gains, kept) = λ duty must no-out no-notes.
+    inl (subst (λ (d : Duty). Does d out notes statuses.Input) (determined course shelf (refuses statuses.Input line) duty due must) (refl, gains, kept))
+complete course shelf out notes statuses.Constants (line, due, gains, kept) = λ duty must no-out no-notes.
+    inl (subst (λ (d : Duty). Does d out notes statuses.Constants) (determined course shelf (refuses statuses.Constants line) duty due must) (refl, gains, kept))
+complete course shelf out notes statuses.Film (line, due, gains, kept) = λ duty must no-out no-notes.
+    inl (subst (λ (d : Duty). Does d out notes statuses.Film) (determined course shelf (refuses statuses.Film line) duty due must) (refl, gains, kept))
+complete course shelf out notes statuses.Script (line, due, gains, kept) = λ duty must no-out no-notes.
+    inl (subst (λ (d : Duty). Does d out notes statuses.Script) (determined course shelf (refuses statuses.Script line) duty due must) (refl, gains, kept))
+complete course shelf out notes statuses.TooLong (line, due, gains, kept) = λ duty must no-out no-notes.
+    inl (subst (λ (d : Duty). Does d out notes statuses.TooLong) (determined course shelf (refuses statuses.TooLong line) duty due must) (refl, gains, kept))
+
+-- ---- only words that are no command are answered as such
+
+-- a course that never comes to such an answer
+NotUsage : Course → Type 0
+NotUsage (comes_to due) = (line : List ℕ) → due ≢ refuses statuses.Usage line
+NotUsage (reads name limit next) = (bytes : List ℕ) → NotUsage (next bytes)
+
+never : (course : Course) (shelf : ShelfRun) (line : List ℕ) → NotUsage course → ¬ MayComeTo course shelf (refuses statuses.Usage line)
+unfolding NotUsage
+never (comes_to due) shelf line n d = n line (sym d)
+never (reads name limit next) shelf line n (inl (inl (e, rose))) = cc
+never (reads name limit next) shelf line n (inl (inr (e, long))) = cc
+never (reads name limit next) shelf line n (inr (bytes, have, d)) = never (next bytes) shelf line (n bytes) d
+
+judged_never : {A E : Type 0} (r : Result A E) (refusal : E → Duty) (next : A → Course) → ((fault : E) → NotUsage (comes_to (refusal fault))) → ((value : A) → NotUsage (next value)) → NotUsage (judged r refusal next)
+judged_never (Ok value) refusal next f n = n value
+judged_never (Err fault) refusal next f n = f fault
+
+command_never : (command : Command) → NotUsage (course_of (Some command))
+unfolding NotUsage
+command_never (info film) = λ bytes. judged_never (film_of bytes) film_refusal _ (λ fault line e. cc) (λ links line e. cc)
+command_never (dump constants film) = λ bytes. judged_never (constants_of bytes) constants_refusal _ (λ fault line e. cc)
+    (λ tables film_bytes. judged_never (film_of film_bytes) film_refusal _ (λ fault line e. cc) (λ links line e. cc))
+
+usage : (command : Option Command) (shelf : ShelfRun) (out notes : SinkRun) (status : Status) → Outcome (course_of command) shelf out notes status → status ≡ statuses.Usage → command ≡ None
 usage None shelf out notes status o e = refl
-usage (Some (info name)) shelf out notes statuses.Usage o e = absurd o.1
-usage (Some (info name)) shelf out notes statuses.Ok o e = absurd (cc)
-usage (Some (info name)) shelf out notes statuses.Input o e = absurd (cc)
-usage (Some (info name)) shelf out notes statuses.Constants o e = absurd o
-usage (Some (info name)) shelf out notes statuses.Film o e = absurd (cc)
-usage (Some (info name)) shelf out notes statuses.Script o e = absurd o
-usage (Some (info name)) shelf out notes statuses.Output o e = absurd (cc)
-usage (Some (info name)) shelf out notes statuses.Memory o e = absurd (cc)
-usage (Some (info name)) shelf out notes statuses.TooLong o e = absurd (cc)
+usage (Some command) shelf out notes status o e =
+    let refused = subst (λ (s : Status). Outcome (course_of (Some command)) shelf out notes s) e o in
+    absurd (never (course_of (Some command)) shelf refused.0 (command_never command) refused.1)
 
-pub runs : (command : Option Command) (shelf : ShelfRun) (out notes : SinkRun) (status : Status) → Outcome command shelf out notes status → Runs command shelf out notes status
+pub runs : (command : Option Command) (shelf : ShelfRun) (out notes : SinkRun) (status : Status) → Outcome (course_of command) shelf out notes status → Runs command shelf out notes status
 runs command shelf out notes status o = record {
   outcome = o;
-  completes = complete command shelf out notes status o;
+  completes = complete (course_of command) shelf out notes status o;
   usage = usage command shelf out notes status o;
 }

@@ -2,11 +2,15 @@
 #![tactic(auto)]
 
 mod command;
+mod dump;
+mod files;
 mod info;
 mod notes;
+mod stops;
 mod texts;
 mod top;
 
 pub use model_line::{FilmFault, LinkCounts, LinkFacts, MOST_CHANNELS, MOST_ENTRIES};
-pub use model_player::{FILM_LIMIT, Status};
+pub use model_player::{CONSTANTS_LIMIT, FILM_LIMIT, Status};
+pub use model_synthesis::ConstantsFault;
 pub use top::{player, player_alone};

@@ -1,10 +1,9 @@
-ghost use Rattle.std.specs.Prelude.{◌≡◌, ◌<◌, ℕ, List, length, IfOk, string_bytes, string_len};
+ghost use Rattle.std.specs.Prelude.{◌≡◌, ◌<◌, length};
 ghost use Rattle.model_player.specs.Texts.{memory_line};
 ghost use Rattle.model_player.specs.Outcome.{sink_run, Tries};
 ghost use Rattle.player_session.specs.Steps.{Finishes};
 
 use model_player::Status;
-use std::alloc::AllocError;
 use vf_outside::{PutFault, Sink};
 
 /// Tries to write the line of want of memory, whatever the put of it answers.
@@ -25,21 +24,5 @@ pub fn write_note<N: Sink>(notes: &mut N, line: &[u8], status: Status) -> Status
         Ok(()) => status,
         Err(PutFault::Failed) => Status::Output,
         Err(PutFault::Memory) => write_memory(notes),
-    }
-}
-
-/// The same of a line that was made, if memory was found for it.
-pub fn write_made_note<N: Sink>(
-    notes: &mut N,
-    line: Result<String, AllocError>,
-    status: Status,
-) -> Status
-    requires { IfOk line (λ text. 0 < string_len text) }
-    ensures { (text : List ℕ) → IfOk line (λ made. string_bytes made ≡ text)
-        → Finishes status text (sink_run N.written N.faults notes.old notes.new) result }
-{
-    match line {
-        Ok(text) => write_note(notes, text.as_bytes(), status),
-        Err(_) => write_memory(notes),
     }
 }

@@ -3,12 +3,11 @@ ghost use Rattle.std.specs.List.{flat_map, enumerate_from};
 ghost use Rattle.model_line.specs.Acceptance.{FilmLink};
 ghost use Rattle.model_line.specs.PacketRows.{rows_of};
 ghost use Rattle.model_line.specs.Index.{Indexes};
-ghost use Rattle.model_player.specs.declared.limits.TheConstants.{FILM_LIMIT};
-ghost use Rattle.model_player.specs.Texts.{counts_text, head_text, frames_text, lines_by, link_lines, total_line, info_text, fault_line, cannot_read_line, too_long_line};
+ghost use Rattle.model_player.specs.Texts.{counts_text, head_text, frames_text, lines_by, link_lines, total_line, info_text, constants_fault_line, fault_line, cannot_read_line, too_long_line};
 
 use film_blocks::Film;
 use model_line::{FilmFault, LinkCounts, LinkFacts};
-use model_player::FILM_LIMIT;
+use model_synthesis::ConstantsFault;
 use std::alloc::{AllocError, Global};
 
 /// The line of a film that cannot be read.
@@ -19,10 +18,18 @@ pub fn cannot_read_line(alloc: Global, name: &str) -> Result<String, AllocError>
 }
 
 /// The line of a film that has too many bytes.
-pub fn too_long_line(alloc: Global, name: &str) -> Result<String, AllocError>
-    ensures { IfOk result (λ line. string_bytes line ≡ too_long_line name.now FILM_LIMIT) }
+pub fn too_long_line(alloc: Global, name: &str, limit: u64) -> Result<String, AllocError>
+    ensures { IfOk result (λ line. string_bytes line ≡ too_long_line name.now limit) }
 {
-    format!(in alloc; "too long {name} {FILM_LIMIT}\n")
+    format!(in alloc; "too long {name} {limit}\n")
+}
+
+/// The line of a constants file that is refused.
+pub fn constants_fault_line(alloc: Global, fault: &ConstantsFault) -> Result<String, AllocError>
+    ensures line { IfOk result (λ line. string_bytes line ≡ constants_fault_line fault.now) }
+    ensures some { IfOk result (λ line. 0 < string_len line) }
+{
+    format!(in alloc; "{fault}\n")
 }
 
 /// The line of a film that is refused.

@@ -2,7 +2,8 @@ ghost use Rattle.std.specs.Prelude.{map, string_bytes, MatchOption};
 ghost use Rattle.model_player.specs.Commands.{command_of};
 ghost use Rattle.model_player.specs.Outcome.{Runs, Waits, shelf_run, sink_run};
 
-use crate::command::info_film;
+use crate::command::{Command, command_of};
+use crate::dump::dump;
 use crate::info::info;
 use crate::notes::write_note;
 use model_player::Status;
@@ -24,8 +25,11 @@ pub fn player_alone<F: Shelf, K: Sink, N: Sink>(
         (sink_run K.written K.faults out.old out.new)
         (sink_run N.written N.faults notes.old notes.new)) }
 {
-    let status = match info_film(words) {
-        Some(name) => info(alloc, name, shelf, out, notes),
+    let status = match command_of(words) {
+        Some(Command::Info { film }) => info(alloc, film, shelf, out, notes),
+        Some(Command::Dump { constants, film }) => {
+            dump(alloc, constants, film, shelf, out, notes)
+        }
         None => write_note(notes, b"usage\n", Status::Usage),
     };
     Some(status)

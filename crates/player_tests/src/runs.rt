@@ -1,5 +1,6 @@
 //! `player_session`: films and words, and what a run over memory writes.
 
+mod dumps;
 mod films;
 mod library_example;
 
@@ -54,22 +55,27 @@ fn words_of(alloc: Global, words: &[&str]) -> Result<Vec<String>, AllocError> {
     Ok(given)
 }
 
-/// A film under the name `f`.
-fn files_of(alloc: Global, film: &[u8]) -> Result<Vec<(String, Vec<u8>)>, AllocError> {
-    let mut files = Vec::new(alloc);
-    files.push((String::from_str(alloc, "f")?, film.to_vec(alloc)?))?;
-    Ok(files)
+/// Files, by their names.
+type Files<'a> = &'a [(&'a str, &'a [u8])];
+
+/// These files, as a shelf has them.
+fn files_of(alloc: Global, files: Files<'_>) -> Result<Vec<(String, Vec<u8>)>, AllocError> {
+    let mut held = Vec::new(alloc);
+    for (name, bytes) in files {
+        held.push((String::from_str(alloc, name)?, bytes.to_vec(alloc)?))?;
+    }
+    Ok(held)
 }
 
-/// Runs these words over a shelf that holds a film under the name `f`.
+/// Runs these words over a shelf that holds these files.
 fn run_words(
     alloc: Global,
     words: &[&str],
-    film: &[u8],
+    files: Files<'_>,
     failing: Failing,
 ) -> Result<Run, AllocError> {
     let words = words_of(alloc, words)?;
-    let mut shelf = MemShelf::new(alloc, files_of(alloc, film)?, failing.shelf.to_vec(alloc)?);
+    let mut shelf = MemShelf::new(alloc, files_of(alloc, files)?, failing.shelf.to_vec(alloc)?);
     let mut out = MemSink::new(alloc, failing.out.to_vec(alloc)?);
     let mut notes = MemSink::new(alloc, failing.notes.to_vec(alloc)?);
     let status = player(alloc, &words, &mut shelf, &mut out, &mut notes, &OpenGate);
@@ -108,7 +114,7 @@ macro_rules! one_link {
 }
 
 /// Two neighbouring blocks of 64 give 32 frames, and a gap parts them.
-const ONE_LINK: [OneLink; 14] = [
+const ONE_LINK: [OneLink; 20] = [
     one_link!("base", BASE, "pages 3 packets 5 lost 0", 32, 0),
     one_link!(
         "an empty packet",
@@ -201,6 +207,36 @@ const ONE_LINK: [OneLink; 14] = [
         64,
         1
     ),
+    one_link!(
+        "a header behind",
+        HEADER_BEHIND,
+        "pages 3 packets 5 lost 0",
+        32,
+        0
+    ),
+    one_link!(
+        "the last byte missing",
+        LAST_BYTE_MISSING,
+        "pages 2 packets 3 lost 0",
+        0,
+        0
+    ),
+    one_link!(
+        "a granule too far",
+        FAR_GRANULE,
+        "pages 3 packets 5 lost 0",
+        32,
+        0
+    ),
+    one_link!("no granule", NO_GRANULE, "pages 3 packets 5 lost 0", 32, 0),
+    one_link!("granule 0", GRANULE_0, "pages 3 packets 5 lost 0", 0, 0),
+    one_link!(
+        "empty packets",
+        EMPTY_PACKETS,
+        "pages 3 packets 258 lost 0",
+        0,
+        0
+    ),
 ];
 
 /// The lines of a film of one link with these counts, frames and gaps.
@@ -214,7 +250,7 @@ fn lines_of(alloc: Global, counts: &str, frames: u64, gaps: u64) -> Result<Strin
 fn films_of_one_link(rt: HostRuntime) -> Result<(), Fail> {
     for row in &ONE_LINK {
         let film = joined(rt.alloc(), row.parts)?;
-        let run = run_words(rt.alloc(), &["info", "f"], &film, NOTHING_FAILS)?;
+        let run = run_words(rt.alloc(), &["info", "f"], &[("f", &film)], NOTHING_FAILS)?;
         let lines = lines_of(rt.alloc(), row.counts, row.frames, row.gaps)?;
         assert_ends(&rt, row.case, &run, Status::Ok, lines.as_bytes(), b"");
     }
@@ -250,7 +286,7 @@ total 32
 fn chains_and_streams(rt: HostRuntime) -> Result<(), Fail> {
     for (case, parts, lines) in &MORE_LINKS {
         let film = joined(rt.alloc(), parts)?;
-        let run = run_words(rt.alloc(), &["info", "f"], &film, NOTHING_FAILS)?;
+        let run = run_words(rt.alloc(), &["info", "f"], &[("f", &film)], NOTHING_FAILS)?;
         assert_ends(&rt, case, &run, Status::Ok, lines.as_bytes(), b"");
     }
     Ok(())
@@ -269,10 +305,10 @@ fn base_films(alloc: Global, count: u32) -> Result<Vec<u8>, AllocError> {
 #[test]
 fn the_most_links(rt: HostRuntime) -> Result<(), Fail> {
     let most = base_films(rt.alloc(), 4096)?;
-    let most = run_words(rt.alloc(), &["info", "f"], &most, NOTHING_FAILS)?;
+    let most = run_words(rt.alloc(), &["info", "f"], &[("f", &most)], NOTHING_FAILS)?;
     assert_eq!(rt; most.status, Status::Ok);
     let many = base_films(rt.alloc(), 4097)?;
-    let many = run_words(rt.alloc(), &["info", "f"], &many, NOTHING_FAILS)?;
+    let many = run_words(rt.alloc(), &["info", "f"], &[("f", &many)], NOTHING_FAILS)?;
     let line = b"film too many links\n";
     assert_ends(&rt, "4097 links", &many, Status::Film, b"", line);
     Ok(())
@@ -292,7 +328,7 @@ fn film_of_many(alloc: Global, last: &[u8]) -> Result<Vec<u8>, AllocError> {
 #[test]
 fn the_most_packets(rt: HostRuntime) -> Result<(), Fail> {
     let most = film_of_many(rt.alloc(), &films::FULL_TO_THE_MOST)?;
-    let most = run_words(rt.alloc(), &["info", "f"], &most, NOTHING_FAILS)?;
+    let most = run_words(rt.alloc(), &["info", "f"], &[("f", &most)], NOTHING_FAILS)?;
     let counts = "pages 16386 packets 4177920 lost 16384";
     let lines = lines_of(rt.alloc(), counts, 0, 16384)?;
     assert_ends(
@@ -304,7 +340,7 @@ fn the_most_packets(rt: HostRuntime) -> Result<(), Fail> {
         b"",
     );
     let many = film_of_many(rt.alloc(), &films::FULL_AND_ONE_MORE)?;
-    let many = run_words(rt.alloc(), &["info", "f"], &many, NOTHING_FAILS)?;
+    let many = run_words(rt.alloc(), &["info", "f"], &[("f", &many)], NOTHING_FAILS)?;
     let line = b"film too many packets\n";
     assert_ends(&rt, "2^22 + 1 entries", &many, Status::Film, b"", line);
     Ok(())
@@ -326,7 +362,7 @@ const REFUSED_WORDS: [(&str, &[&str], Status, &str); 5] = [
 ];
 
 /// Films that are refused: what each shows, its parts, and the text of the line.
-const REFUSED_FILMS: [(&str, Parts, &str); 11] = [
+const REFUSED_FILMS: [(&str, Parts, &str); 13] = [
     ("another codec", &films::NO_VORBIS, "film link 0 no vorbis"),
     (
         "no second page",
@@ -374,6 +410,16 @@ const REFUSED_FILMS: [(&str, Parts, &str); 11] = [
         "film link 0 setup book-limit 0",
     ),
     (
+        "a run of three in a book of two",
+        &films::RUN_PAST_THE_END,
+        "film link 0 setup book-tree 0",
+    ),
+    (
+        "a codeword of 33 bits",
+        &films::LENGTH_OF_33,
+        "film link 0 setup book-tree 0",
+    ),
+    (
         "comment and setup",
         &films::WRONG_COMMENT_AND_SETUP,
         "film link 0 comment framing",
@@ -387,17 +433,17 @@ fn assert_refused(
     alloc: Global,
     case: &str,
     words: &[&str],
-    film: &[u8],
+    files: Files<'_>,
     (status, text): (Status, &str),
 ) -> Result<(), Fail> {
     let line = format!(in alloc; "{text}\n")?;
-    let noted = run_words(alloc, words, film, NOTHING_FAILS)?;
+    let noted = run_words(alloc, words, files, NOTHING_FAILS)?;
     assert_ends(rt, case, &noted, status, b"", line.as_bytes());
     let failing = Failing {
         notes: &[1],
         ..NOTHING_FAILS
     };
-    let unwritten = run_words(alloc, words, film, failing)?;
+    let unwritten = run_words(alloc, words, files, failing)?;
     assert_ends(rt, case, &unwritten, Status::Output, b"", b"");
     Ok(())
 }
@@ -405,7 +451,14 @@ fn assert_refused(
 #[test]
 fn refusals(rt: HostRuntime) -> Result<(), Fail> {
     for (case, words, status, text) in &REFUSED_WORDS {
-        assert_refused(&rt, rt.alloc(), case, words, b"", (*status, *text))?;
+        assert_refused(
+            &rt,
+            rt.alloc(),
+            case,
+            words,
+            &[("f", b"")],
+            (*status, *text),
+        )?;
     }
     for (case, parts, text) in &REFUSED_FILMS {
         let film = joined(rt.alloc(), parts)?;
@@ -414,11 +467,31 @@ fn refusals(rt: HostRuntime) -> Result<(), Fail> {
             rt.alloc(),
             case,
             &["info", "f"],
-            &film,
+            &[("f", &film)],
             (Status::Film, *text),
         )?;
     }
     Ok(())
+}
+
+/// 65,536 bytes of headers and lacing values alone, each of which says that a page of all the bytes
+/// that a page can have stands there.
+#[test]
+fn false_headers_again_and_again(rt: HostRuntime) -> Result<(), Fail> {
+    let mut film = Vec::new(rt.alloc());
+    for _ in 0..233u32 {
+        film.extend_from_slice(&films::FALSE_HEADER)?;
+    }
+    film.truncate(65_536);
+    let refused = (Status::Film, "film no link");
+    assert_refused(
+        &rt,
+        rt.alloc(),
+        "false headers",
+        &["info", "f"],
+        &[("f", &film)],
+        refused,
+    )
 }
 
 #[test]
@@ -429,7 +502,7 @@ fn faults_of_the_outside(rt: HostRuntime) -> Result<(), Fail> {
         shelf: &[1],
         ..NOTHING_FAILS
     };
-    let unread = run_words(rt.alloc(), &words, &film, failing)?;
+    let unread = run_words(rt.alloc(), &words, &[("f", &film)], failing)?;
     let line = b"cannot read f\n";
     assert_ends(&rt, "a failed fetch", &unread, Status::Input, b"", line);
     let failing = Failing {
@@ -437,13 +510,13 @@ fn faults_of_the_outside(rt: HostRuntime) -> Result<(), Fail> {
         out: &[2],
         notes: &[1],
     };
-    let later = run_words(rt.alloc(), &words, &film, failing)?;
+    let later = run_words(rt.alloc(), &words, &[("f", &film)], failing)?;
     assert_eq!(rt; later.status, Status::Ok);
     let failing = Failing {
         out: &[1],
         ..NOTHING_FAILS
     };
-    let unwritten = run_words(rt.alloc(), &words, &film, failing)?;
+    let unwritten = run_words(rt.alloc(), &words, &[("f", &film)], failing)?;
     assert_ends(&rt, "a failed put", &unwritten, Status::Output, b"", b"");
     Ok(())
 }
@@ -552,7 +625,7 @@ fn nothing_fails_over_a_clean_shelf(rt: HostRuntime) -> Result<(), Fail> {
     let alloc = rt.alloc();
     let words = words_of(alloc, &["info", "f"])?;
     let film = joined(alloc, &films::BASE)?;
-    let mut shelf = CleanShelf::new(files_of(alloc, &film)?);
+    let mut shelf = CleanShelf::new(files_of(alloc, &[("f", &film)])?);
     let mut out = CleanSink::new(alloc);
     let mut notes = CleanSink::new(alloc);
     let status = player_alone(alloc, &words, &mut shelf, &mut out, &mut notes);

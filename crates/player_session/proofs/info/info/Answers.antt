@@ -1,37 +1,26 @@
-use Rattle.std.proofs.Common.{Some, refl, arith}
-use Rattle.model_player.specs.declared.limits.TheConstants.{FILM_LIMIT}
-use Rattle.model_player.specs.declared.status.Status.TheVariants as statuses
+use Rattle.std.proofs.Common.{refl, Some}
 use Rattle.model_player.specs.Commands.{info}
-use Rattle.model_player.specs.Texts.{cannot_read_line, too_long_line, fault_line, info_text}
-use Rattle.model_player.specs.Outcome.{shelf_run, sink_run}
+use Rattle.model_player.specs.Courses.{at_once, writes, comes_to, course_of}
+use Rattle.model_player.specs.Texts.{info_text}
+use Rattle.model_player.specs.Outcome.{MayComeTo, shelf_run, sink_run}
 use Rattle.player_session.proofs.Puts.{Keeps-same}
-use Rattle.player_session.proofs.Outcomes.{shown, refused}
+use Rattle.player_session.proofs.Outcomes.{shown, stopped, StopsBy-weaker}
+use Rattle.player_session.proofs.Readings.{lies_self}
 use Rattle.player_session.proofs.info.info.Goals as goal
 
-pub returns-in-Err-Failed : goal.returns-in-Err-Failed
-returns-in-Err-Failed g c =
-    let cause = rw c.in-Err-Failed.field-0-is at c.in-Err-Failed.ensures.failed in
-    refused (Some (info c.args.name.now)) (shelf_run g.F.Shelf.told g.F.Shelf.faults c.args.shelf.now c.fetch.new.self)
-    (sink_run g.K.Sink.written g.K.Sink.faults c.args.out.now c.args.out.now) _ statuses.Input (cannot_read_line c.args.name.now) _
-    (cause refl, refl) (Keeps-same _) (c.write_made_note-in-Err-Failed.ensures (cannot_read_line c.args.name.now) c.cannot_read_line.ensures)
+pub write_stop-requires : goal.write_stop-requires
+write_stop-requires g c =
+    let run = shelf_run g.F.Shelf.told g.F.Shelf.faults c.args.shelf.now c.read_film.new.shelf in
+    StopsBy-weaker (MayComeTo (course_of (Some (info c.args.name.now))) run) _ (λ duty due. tt) c.in-Err.stop (c.in-Err.ensures.course run (lies_self run) (λ links. comes_to (writes at_once (info_text links))))
 
-pub returns-in-Err-TooLong : goal.returns-in-Err-TooLong
-returns-in-Err-TooLong g c =
-    let cause = rw c.in-Err-TooLong.field-0-is at c.in-Err-TooLong.ensures.too_long in
-    refused (Some (info c.args.name.now)) (shelf_run g.F.Shelf.told g.F.Shelf.faults c.args.shelf.now c.fetch.new.self)
-    (sink_run g.K.Sink.written g.K.Sink.faults c.args.out.now c.args.out.now) _ statuses.TooLong (too_long_line c.args.name.now FILM_LIMIT) _
-    (cause refl, refl) (Keeps-same _) (c.write_made_note-in-Err-TooLong.ensures (too_long_line c.args.name.now FILM_LIMIT) c.too_long_line.ensures)
+pub returns-in-Ok : goal.returns-in-Ok
+returns-in-Ok g c =
+    let run = shelf_run g.F.Shelf.told g.F.Shelf.faults c.args.shelf.now c.read_film.new.shelf in
+    shown (course_of (Some (info c.args.name.now))) run _ _ at_once (info_text c.in-Ok.film.links) _
+    (c.in-Ok.ensures.course run (lies_self run) (λ links. comes_to (writes at_once (info_text links))) (writes at_once (info_text c.in-Ok.film.links)) refl) c.write_info.ensures
 
-pub returns-in_default : goal.returns-in_default
-returns-in_default g c =
-    refused (Some (info c.args.name.now)) (shelf_run g.F.Shelf.told g.F.Shelf.faults c.args.shelf.now c.fetch.new.self)
-    (sink_run g.K.Sink.written g.K.Sink.faults c.args.out.now c.args.out.now) _ statuses.Film (fault_line c.in-Err.fault) _
-    (c.in-Ok.bytes.items, c.in-Err.fault, record { given = c.in-Ok.ensures.bytes; short = omega (arith, c.in-Ok.ensures.bound) }, c.in-Err.ensures.film c.in_default.not-Memory, refl) (Keeps-same _)
-    (c.write_made_note.ensures (fault_line c.in-Err.fault) c.fault_line.ensures.line)
-
-pub returns-in-Ok-open : goal.returns-in-Ok-open
-returns-in-Ok-open g c =
-    shown (Some (info c.args.name.now)) (shelf_run g.F.Shelf.told g.F.Shelf.faults c.args.shelf.now c.fetch.new.self)
-    (sink_run g.K.Sink.written g.K.Sink.faults c.args.out.now c.write_info.new.out) (sink_run g.N.Sink.written g.N.Sink.faults c.args.notes.now c.write_info.new.notes)
-    (info_text c.in-Ok-open.film.links) _
-    (c.in-Ok.bytes.items, c.in-Ok-open.film.links, record { given = c.in-Ok.ensures.bytes; short = omega (arith, c.in-Ok.ensures.bound) }, c.in-Ok-open.ensures.film, refl) c.write_info.ensures
+pub returns-in-Err : goal.returns-in-Err
+returns-in-Err g c =
+    let run = shelf_run g.F.Shelf.told g.F.Shelf.faults c.args.shelf.now c.read_film.new.shelf in
+    stopped (course_of (Some (info c.args.name.now))) run (sink_run g.K.Sink.written g.K.Sink.faults c.args.out.now c.args.out.now) _ c.in-Err.stop _
+    (c.in-Err.ensures.course run (lies_self run) (λ links. comes_to (writes at_once (info_text links)))) (Keeps-same _) c.write_stop.ensures

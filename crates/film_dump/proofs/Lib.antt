@@ -1,0 +1,4 @@
+pub mod Midst
+pub mod FrameSteps
+pub mod LineSteps
+pub mod KeptBlocks
