@@ -310,8 +310,7 @@ decode_until-requires-clause-sizes c = record {
 ANTT
 
 # the setup packet, and each audio packet in a slot
-sox -R -n -r 44100 -c 2 -b 16 -e signed-integer -t raw - synth 10 pinknoise vol 0.5 \
-    | oggenc -Q -r -B 16 -C 2 -R 44100 -q 5 -s 1 -o "$work/film.ogg" -
+noise_film "$work/film.ogg" 1 2 44100 10 5
 PYTHONPATH=$root/tools python3 -B - "$work" <<'PYTHON'
 import pathlib
 import sys

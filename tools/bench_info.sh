@@ -14,61 +14,23 @@ source "$(dirname "$(readlink -f "${BASH_SOURCE[0]}")")/common.sh"
 need oggenc ogginfo sox python3
 player=$(program)
 
-work=$(mktemp -d)
-trap 'rm -rf "$work"' EXIT
+temporary_folder
 
 film=${FILM:-}
 if [ -z "$film" ]; then
     film=$work/hour.ogg
     echo "making an hour of sound, which takes a minute or two" >&2
-    sox -R -n -r 44100 -c 2 -b 16 -e signed-integer -t raw - synth 3600 pinknoise vol 0.5 \
-        | oggenc -Q -r -B 16 -C 2 -R 44100 -q 0 -s 1 -o "$film" -
+    noise_film "$film" 1 2 44100 3600 0
 fi
 
-python3 - "$player" "$film" <<'PYTHON'
+PYTHONPATH=$root/tools python3 -B - "$player" "$film" <<'PYTHON'
 import os
-import statistics
 import sys
-import time
+
+from in_turns import in_turns
 
 player, film = sys.argv[1:]
-
-
-def run(words):
-    """Seconds, the most memory in MiB, and the first line of one run."""
-    read, write = os.pipe()
-    start = time.perf_counter()
-    child = os.fork()
-    if child == 0:
-        os.dup2(write, 1)
-        os.dup2(os.open(os.devnull, os.O_WRONLY), 2)
-        os.execvp(words[0], words)
-    os.close(write)
-    with os.fdopen(read, "rb") as output:
-        text = output.read()
-    _, status, used = os.wait4(child, 0)
-    seconds = time.perf_counter() - start
-    if status != 0:
-        sys.exit(f"{words[0]} ended with status {os.waitstatus_to_exitcode(status)}: nothing is told of it")
-    lines = text.decode(errors="replace").splitlines()
-    return seconds, used.ru_maxrss / 1024, lines[0] if lines else ""
-
-
-commands = {"info": [player, "info", film], "ogginfo": ["ogginfo", film]}
-for words in commands.values():
-    run(words)
-runs = {name: [] for name in commands}
-for _ in range(5):
-    for name, words in commands.items():
-        runs[name].append(run(words))
-
 print(f"film: {os.path.getsize(film):,} bytes")
-print(f"info says: {runs['info'][0][2]}")
-medians = {}
-for name, results in runs.items():
-    medians[name] = statistics.median(seconds for seconds, _, _ in results)
-    peak = max(memory for _, memory, _ in results)
-    each = " ".join(f"{1000 * seconds:.1f}" for seconds, _, _ in results)
-    print(f"{name}: median {1000 * medians[name]:.1f} ms of {each}; at most {peak:.1f} MiB")
+medians, _ = in_turns({"info": [player, "info", film], "ogginfo": ["ogginfo", film]})
 print(f"info / ogginfo: {medians['info'] / medians['ogginfo']:.2f}")
 PYTHON

@@ -12,8 +12,7 @@ set -euo pipefail
 source "$(dirname "$(readlink -f "${BASH_SOURCE[0]}")")/common.sh"
 need python3
 player=$(program)
-work=$(mktemp -d)
-trap 'rm -rf "$work"' EXIT
+temporary_folder
 
 PYTHONDONTWRITEBYTECODE=1 PYTHONPATH=$root/tools python3 - "$work" <<'PY'
 import sys

@@ -9,40 +9,15 @@
 # Writes only below a folder of its own in the place for temporary files, and removes it.
 set -euo pipefail
 
-source "$(dirname "$(readlink -f "${BASH_SOURCE[0]}")")/common.sh"
-
+source "$(dirname "$(readlink -f "${BASH_SOURCE[0]}")")/checks.sh"
 small=
-case ${1:-} in
-    '') ;;
-    --small) small=1 ;;
-    *)
-        echo "usage: tools/check_real.sh [--small]" >&2
-        exit 2
-        ;;
-esac
-
+if is_small "$@"; then small=1; fi
 skip_without oggenc ogginfo oggdec sox oggz-info oggz-merge
 player=$(program)
 
-work=$(mktemp -d)
-trap 'rm -rf "$work"' EXIT
-passed=0
-failed=0
-
-pass() {
-    echo "ok: $1"
-    passed=$((passed + 1))
-}
-
-fail() {
-    echo "FAILED: $1: $2"
-    failed=$((failed + 1))
-}
-
-# make NAME SERIAL CHANNELS RATE SECONDS QUALITY: a film of sound
+# make NAME SERIAL CHANNELS RATE SECONDS QUALITY: makes a film of noise
 make() {
-    sox -R -n -r "$4" -c "$3" -b 16 -e signed-integer -t raw - synth "$5" pinknoise vol 0.5 \
-        | oggenc -Q -r -B 16 -C "$3" -R "$4" -q "$6" -s "$2" -o "$work/$1.ogg" -
+    noise_film "$work/$1.ogg" "${@:2}"
 }
 
 # info NAME: what the program prints of a film goes into `said`, and its status into `status`
@@ -93,11 +68,12 @@ heard() {
 says() {
     info "$1"
     if [ "$status" != 0 ]; then
-        fail "$1" "status $status, $(head -c 200 "$work/notes")"
+        fail "$1: status $status, $(head -c 200 "$work/notes")"
     elif [[ $said =~ ^$2$ ]]; then
-        pass "$1: ${said//$'\n'/; }"
+        echo "ok: $1: ${said//$'\n'/; }"
+        pass
     else
-        fail "$1" "said '$said', expected '$2'"
+        fail "$1: said '$said', expected '$2'"
     fi
 }
 
@@ -109,7 +85,7 @@ counts() {
         if [ -n "${5:-}" ]; then lines=$(damaged "$lines"); fi
         says "$1" "$lines"
     else
-        fail "$1" "ogginfo tells of another stream"
+        fail "$1: ogginfo tells of another stream"
     fi
 }
 
@@ -163,12 +139,11 @@ $(expected six_channels 2 2147483648 6 48000)")"
     if heard multiplexed 1 1 44100; then
         says multiplexed "$(total "$(expected mono 0 1 1 44100)")"
     else
-        fail multiplexed "ogginfo tells of another stream"
+        fail "multiplexed: ogginfo tells of another stream"
     fi
 fi
 cat "$work/mono.ogg" "$work/second.ogg" >"$work/chain.ogg"
 says chain "$(total "$(expected mono 0 1 1 44100)
 $(expected second 1 4000000000 2 44100)")"
 
-echo "$passed passed, $failed failed"
-[ "$failed" = 0 ]
+tell_results

@@ -6,13 +6,8 @@
 # Writes only below a folder of its own in the place for temporary files, and removes it.
 set -euo pipefail
 
-source "$(dirname "$(readlink -f "${BASH_SOURCE[0]}")")/common.sh"
+source "$(dirname "$(readlink -f "${BASH_SOURCE[0]}")")/checks.sh"
 skip_without sox oggenc oggdec python3
-
-work=$(mktemp -d)
-trap 'rm -rf "$work"' EXIT
-passed=0
-failed=0
 
 # compare CHANNELS RATE QUALITY PACKETS
 compare() {
@@ -31,10 +26,9 @@ print(f'{len(frames) // channels} frames, worst difference {worst:.3f}')
 sys.exit(worst > 0.6)
 PYTHON
     then
-        passed=$((passed + 1))
+        pass
     else
-        echo "FAILED: $1 channels, rate $2, quality $3"
-        failed=$((failed + 1))
+        fail "$1 channels, rate $2, quality $3"
     fi
 }
 
@@ -42,5 +36,4 @@ compare 1 8000 1 10
 compare 2 44100 4 12
 compare 2 22050 -1 12
 compare 6 48000 5 6
-echo "$passed passed, $failed failed"
-[ "$failed" -eq 0 ]
+tell_results

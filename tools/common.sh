@@ -26,16 +26,6 @@ need() {
     }
 }
 
-# skip_without PROGRAM..: ends a check, where one of these is missing; it then counts as no failure
-skip_without() {
-    local program
-    program=$(missing "$@")
-    [ -z "$program" ] || {
-        echo "skipped, which counts as no failure: $program is missing; tools/install.sh installs what the tools use"
-        exit 0
-    }
-}
-
 # program: the path of the program to try: PLAYER where it is set, else the one that `player` runs
 program() {
     if [ -n "${PLAYER:-}" ]; then
@@ -43,4 +33,26 @@ program() {
     else
         "$root/tools/program.sh"
     fi
+}
+
+# temporary_folder: makes a folder for what a tool writes, `work`, which goes with the tool
+temporary_folder() {
+    work=$(mktemp -d)
+    trap 'rm -rf "$work"' EXIT
+}
+
+# noise_film FILE SERIAL CHANNELS RATE SECONDS QUALITY: makes a film of noise, the same each time
+noise_film() {
+    sox -R -n -r "$4" -c "$3" -b 16 -e signed-integer -t raw - synth "$5" pinknoise vol 0.5 |
+        oggenc -Q -r -B 16 -C "$3" -R "$4" -q "$6" -s "$2" -o "$1" -
+}
+
+# sum_of FILE: its SHA-256
+sum_of() {
+    sha256sum <"$1" 2>/dev/null | cut -d' ' -f1
+}
+
+# told WORD: what dist/PROVED says after a word
+told() {
+    sed -n "s/^$1 //p" "$root/dist/PROVED" 2>/dev/null || true
 }

@@ -1,8 +1,8 @@
 #!/usr/bin/env bash
 # Prints the crates with the names given and all crates of the repository below them, as crates.txt says, one a line.
 set -euo pipefail
-unset CDPATH
-cd "$(dirname "$(readlink -f "${BASH_SOURCE[0]}")")/.."
+source "$(dirname "$(readlink -f "${BASH_SOURCE[0]}")")/common.sh"
+cd "$root"
 awk -F: -v names="$*" '
     { sub(/#.*/, "") }
     NF > 1 { split($1, name, " "); uses[name[1]] = $2 }

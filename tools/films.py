@@ -3,6 +3,7 @@
 
     tools/films.py rust [NAME..]    the films of tests, all of them or these: player_tests' file src/runs/films.rt has all,
                                     film_blocks' src/tests/films.rt has those that its first line names
+    tools/films.py plays            the films that scripts are played over: script_playing's file src/tests/films.rt
     tools/films.py antt NAME.. the bytes of films as a list for an example
     tools/films.py file NAME PATH   one film as a file
 """
@@ -79,6 +80,11 @@ FLOOR_TYPE_PLACE = 237
 FLOOR_ZERO = packet_of(bits_of(SETUP)[:FLOOR_TYPE_PLACE] + 16 * "0" + bits_of(SETUP)[FLOOR_TYPE_PLACE + 16 :])
 # A book of 2^24 - 1 entries, and nothing behind its count.
 BOOK_LIMIT = b"\x05vorbis\0" + b"BCV" + b"\1\0" + b"\xff\xff\xff"
+# A book of one dimension and two entries, ordered, and its lengths: three entries of length 3; one of length 1, and then
+# others of a length that passes 32.
+BOOK_OF_TWO = b"\x05vorbis\0" + b"BCV" + b"\1\0" + b"\2\0\0"
+TREE_RUN = BOOK_OF_TWO + b"\xc1"
+TREE_LENGTH = BOOK_OF_TWO + b"\x3f\0"
 
 
 def heads(serial=1, rate=8000):
@@ -141,6 +147,14 @@ PARTS = {
     "FLOOR_SETUP": page(0, 1, [COMMENT, FLOOR_ZERO]),
     "BOOK_SETUP": page(0, 1, [COMMENT, BOOK_LIMIT]),
     "WRONG_BOTH": page(0, 1, [WRONG_COMMENT, FLOOR_ZERO]),
+    "IDENT_HEADER": page(FIRST, 0, [ident()])[:27],
+    "TWO_CUT": page(LAST, 2, [S, S], granule=32)[:-1],
+    "FAR_LAST": page(LAST, 2, [S, S], granule=1000),
+    "UNMARKED_LAST": page(LAST, 2, [S, S], granule=NONE),
+    "NOTHING_LAST": page(LAST, 2, [S, S], granule=0),
+    "EMPTY_LAST": page(LAST, 2, 255 * [b""]),
+    "RUN_SETUP": page(0, 1, [COMMENT, TREE_RUN]),
+    "LENGTH_SETUP": page(0, 1, [COMMENT, TREE_LENGTH]),
 }
 
 # Parts of the film of blocks. Under a setup of three modes the sound of a packet begins two bits later; one such packet
@@ -153,11 +167,19 @@ BLOCK_PARTS = {
     "SOUND_ENDS": page(CONTINUED | LAST, 3, [LONG_SOUND[255:], Q], granule=32, serial=2),
 }
 
-# Pages of packets without bytes, for films with many: 255 on a page, 252 and 253.
+# Parts of films that scripts are played over: a sound whose packet ends in its floor, and one behind which it is silent.
+PLAY_PARTS = {
+    "FLOOR_ENDS": page(LAST, 2, [S, S[:2]], granule=32),
+    "SOUND_ENDS_FIRST": page(LAST, 2, [S, Q], granule=32),
+}
+
+# For films with many of them: pages of packets without bytes, 255 on a page, 252 and 253; and a header, with its lacing
+# values, of a page that would have all the bytes that a page can have.
 MANY = {
     "FULL_PAGE": page(0, 5, 255 * [b""], granule=NONE),
     "FULL_TO_THE_MOST": page(0, 7, 252 * [b""], granule=NONE),
     "FULL_AND_ONE_MORE": page(0, 7, 253 * [b""], granule=NONE),
+    "FALSE_HEADER": b"OggS" + bytes(22) + b"\xff" + 255 * b"\xff",
 }
 
 # The films of the tests: what each is, and its parts.
@@ -204,12 +226,29 @@ FILMS = {
     "BOOK_TOO_LARGE": ("A setup with a book of 2^24 - 1 entries.", "IDENT BOOK_SETUP TWO_LAST"),
     "WRONG_COMMENT_AND_SETUP": ("A comment without its framing bit, and a setup whose floor is of type 0.",
                                 "IDENT WRONG_BOTH TWO_LAST"),
+    "HEADER_BEHIND": ("The base film followed by the header of its first page.",
+                      "IDENT SETUP TWO_LAST IDENT_HEADER"),
+    "LAST_BYTE_MISSING": ("The base film without its last byte.", "IDENT SETUP TWO_CUT"),
+    "FAR_GRANULE": ("Its last page says more frames than its packets give.", "IDENT SETUP FAR_LAST"),
+    "NO_GRANULE": ("Its last page says no number of frames.", "IDENT SETUP UNMARKED_LAST"),
+    "GRANULE_0": ("Its last page says that it has no frames.", "IDENT SETUP NOTHING_LAST"),
+    "EMPTY_PACKETS": ("A last page of 255 packets without bytes.", "IDENT SETUP EMPTY_LAST"),
+    "RUN_PAST_THE_END": ("A setup with a book of two entries whose first run has three.", "IDENT RUN_SETUP TWO_LAST"),
+    "LENGTH_OF_33": ("A setup with a book of two entries, the second of which would have length 33.",
+                     "IDENT LENGTH_SETUP TWO_LAST"),
 }
 
 # Films of film_blocks alone.
 BLOCK_FILMS = {
     "TWO_SETUPS": ("Two links: a block, a packet that is skipped, two blocks; a bad packet, two blocks.",
                    "IDENT SETUP SOUND_AND_SKIP SECOND_IDENT SECOND_MODES SOUND_BEGINS SOUND_ENDS"),
+}
+
+# Films of script_playing alone.
+PLAY_FILMS = {
+    "SILENT": ("Three audio packets, all silent.", "IDENT SETUP THREE_LAST"),
+    "FLOOR_CUT_SHORT": ("Two audio packets, of which the second ends in its floor.", "IDENT SETUP FLOOR_ENDS"),
+    "SILENT_AT_THE_END": ("Two audio packets, of which the second is silent.", "IDENT SETUP SOUND_ENDS_FIRST"),
 }
 
 # Small films for examples by computation.
@@ -220,10 +259,14 @@ SMALL = {
 }
 
 
+ALL_PARTS = PARTS | BLOCK_PARTS | PLAY_PARTS
+ALL_FILMS = FILMS | BLOCK_FILMS | PLAY_FILMS
+
+
 def film(name):
     if name in SMALL:
         return SMALL[name]
-    return b"".join((PARTS | BLOCK_PARTS)[part] for part in (FILMS | BLOCK_FILMS)[name][1].split())
+    return b"".join(ALL_PARTS[part] for part in ALL_FILMS[name][1].split())
 
 
 def rows(head, items, columns, end):
@@ -237,12 +280,15 @@ def rows(head, items, columns, end):
     return lines + ["]" + end]
 
 
-def rust(names):
+# The films of script_playing's tests.
+PLAYED = ["BASE", *PLAY_FILMS, "CUT_AT_THE_END", "BEGINS_LATE", "EMPTY_PACKET", "PAGE_MISSING", "NO_SUCH_MODE", "CHAIN", "BODY_CHANGED"]
+
+
+def rust(names, command):
     """A test file of films, as it stands."""
-    films = {name: (FILMS | BLOCK_FILMS)[name] for name in names} if names else FILMS
+    films = {name: ALL_FILMS[name] for name in names} if names else FILMS
     used = {part for _, parts in films.values() for part in parts.split()}
-    parts = {name: part for name, part in (PARTS | BLOCK_PARTS).items() if name in used} if names else PARTS | MANY
-    command = " ".join(["tools/films.py rust", *names])
+    parts = {name: part for name, part in ALL_PARTS.items() if name in used} if names else PARTS | MANY
     lines = ["//! The films of the tests, as lists of their parts. This file is written by", f"//! `{command}`."]
     for name, part in parts.items():
         lines.append("")
@@ -265,7 +311,9 @@ def antt(names):
 
 if __name__ == "__main__":
     if sys.argv[1:2] == ["rust"]:
-        rust(sys.argv[2:])
+        rust(sys.argv[2:], " ".join(["tools/films.py rust", *sys.argv[2:]]))
+    elif sys.argv[1:] == ["plays"]:
+        rust(PLAYED, "tools/films.py plays")
     elif sys.argv[1:2] == ["antt"]:
         antt(sys.argv[2:])
     elif sys.argv[1:2] == ["file"] and len(sys.argv) == 4:

@@ -5,7 +5,7 @@ set -u
 
 # program:package
 wanted=(python3:python3 oggenc:vorbis-tools ogginfo:vorbis-tools oggdec:vorbis-tools sox:sox oggz-info:oggz-tools
-    opusenc:opus-tools)
+    opusenc:opus-tools /usr/bin/time:time)
 
 # missing: the pairs of which the program is not there
 missing() {

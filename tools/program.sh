@@ -5,8 +5,7 @@
 # it. Else, or where REBLUTOM_BUILD is set, it is the one that `rt` proves and builds from these sources, as far as that is
 # not done yet. What this says goes to standard error. Where there is no program the status is 125.
 set -u
-unset CDPATH
-root=$(cd -P -- "$(dirname "$(readlink -f "${BASH_SOURCE[0]}")")/.." && pwd) || exit 125
+source "$(dirname "$(readlink -f "${BASH_SOURCE[0]}")")/common.sh" || exit 125
 released=$root/dist/player-x86_64-linux
 crate=$root/crates/player_cli
 built=$crate/out/player_cli
@@ -20,15 +19,6 @@ say() {
 fail() {
     say "$@"
     exit 125
-}
-
-sum_of() {
-    sha256sum <"$1" 2>/dev/null | cut -d' ' -f1
-}
-
-# told WORD: what dist/PROVED says after a word
-told() {
-    sed -n "s/^$1 //p" "$root/dist/PROVED" 2>/dev/null
 }
 
 # why the program in dist/ is not to be run, if there is a reason

@@ -10,8 +10,8 @@
 # Where `rt ci` took that verdict from an earlier run it does not print the line again. Then that of dist/PROVED stays, if
 # sources and program are the same, and else `rt check` gives one, which tells by its own words what it took from before.
 set -euo pipefail
-unset CDPATH
-cd "$(dirname "$(readlink -f "${BASH_SOURCE[0]}")")/.."
+source "$(dirname "$(readlink -f "${BASH_SOURCE[0]}")")/common.sh"
+cd "$root"
 checks=
 if [ "${1:-}" = --check ]; then
     checks=1
@@ -23,11 +23,6 @@ built=crates/player_cli/out/player_cli
 fail() {
     echo "dist: $*" >&2
     exit 1
-}
-
-# told WORD: what dist/PROVED says after a word
-told() {
-    sed -n "s/^$1 //p" dist/PROVED 2>/dev/null || true
 }
 
 verdict() {
@@ -53,7 +48,7 @@ grep -Eq '^[0-9]+ passed, 0 failed$' "$log" || fail "$log does not end with 0 fa
 newer=$(find crates.txt HANDLES crates/*/src crates/*/specs crates/*/proofs -newer "$built" -type f -print -quit)
 [ -z "$newer" ] || fail "$newer is newer than $built: run .ci/run first"
 
-program=$(sha256sum <"$built" | cut -d' ' -f1)
+program=$(sum_of "$built")
 sources=$(tools/source_sum.sh)
 verdict=$(verdict)
 [ -n "$verdict" ] || [ -n "$checks" ] || fail "the prover's verdict on player_cli is neither in $log nor given by rt check"

@@ -4,14 +4,11 @@
 
 source "$(dirname "$(readlink -f "${BASH_SOURCE[0]}")")/common.sh"
 need rt
-work=$(mktemp -d)
-trap 'rm -rf "$work"' EXIT
+temporary_folder
 
-# scratch_program NAME CRATE..: makes an empty program that uses these crates, beside copies of them and of all below them,
-# and enters its folder
-scratch_program() {
-    local name=$1 crates crate
-    shift
+# copy_crates CRATE..: copies these crates and all below them, with their lines of crates.txt
+copy_crates() {
+    local crates crate
     crates=$("$root/tools/crates_below.sh" "$@")
     mkdir "$work/crates"
     for crate in $crates; do
@@ -19,6 +16,14 @@ scratch_program() {
         (cd "$root/crates/$crate" && tar cf - .) | (cd "$work/crates/$crate" && tar xf -)
         sed -n "/^$crate:/p" "$root/crates.txt" >>"$work/crates.txt"
     done
+}
+
+# scratch_program NAME CRATE..: makes an empty program that uses these crates, beside copies of them and of all below them,
+# and enters its folder
+scratch_program() {
+    local name=$1
+    shift
+    copy_crates "$@"
     cd "$work" || return
     rt new "crates/$name" start_io >"$work/log" 2>&1
     rm -rf BUILD.bazel "crates/$name"/{BUILD.bazel,proofs,specs,stdin,stdout,must-fail,src}
@@ -27,9 +32,9 @@ scratch_program() {
     cd "crates/$name" || return
 }
 
-# print_times: runs the program, and prints its lines that tell times
+# print_times FLAG..: runs the program, built with these flags of the compiler's, and prints its lines that tell times
 print_times() {
-    rt run >"$work/log" 2>&1 || {
+    rt run "$@" >"$work/log" 2>&1 || {
         cat "$work/log"
         exit 1
     }

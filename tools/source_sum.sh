@@ -3,8 +3,8 @@
 # player_cli and of every crate below it. A file's name counts, its times do not.
 set -euo pipefail
 export LC_ALL=C
-unset CDPATH
-cd "$(dirname "$(readlink -f "${BASH_SOURCE[0]}")")/.."
+source "$(dirname "$(readlink -f "${BASH_SOURCE[0]}")")/common.sh"
+cd "$root"
 
 places=(crates.txt HANDLES)
 crates=$(tools/crates_below.sh player_cli)
