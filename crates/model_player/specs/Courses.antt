@@ -1,16 +1,21 @@
 -- What a command does, by what its files hold.
 use Rattle.std.specs.Prelude.{ℕ, List, Option, Some, None, Result, Ok, Err}
+use Rattle.std.specs.List.{concat}
 use Rattle.model_synthesis.specs.declared.constants.ConstantsFault.{ConstantsFault}
 use Rattle.model_synthesis.specs.Tables.{ConstantTables}
 use Rattle.model_synthesis.specs.ConstantsFile.{constants_of}
 use Rattle.model_line.specs.declared.film.FilmFault.{FilmFault}
 use Rattle.model_line.specs.Acceptance.{FilmLink, film_of}
 use Rattle.model_film.specs.Dumps.{dump_of}
-use Rattle.model_player.specs.declared.limits.TheConstants.{CONSTANTS_LIMIT, FILM_LIMIT}
+use Rattle.model_script.specs.declared.command.Command as script_commands
+use Rattle.model_script.specs.declared.fault.ScriptFault.{ScriptFault}
+use Rattle.model_script.specs.Scripts.{script_of}
+use Rattle.model_report.specs.Reports.{report_of}
+use Rattle.model_player.specs.declared.limits.TheConstants.{CONSTANTS_LIMIT, FILM_LIMIT, SCRIPT_LIMIT}
 use Rattle.model_player.specs.declared.status.Status.{Status}
 use Rattle.model_player.specs.declared.status.Status.TheVariants as statuses
-use Rattle.model_player.specs.Commands.{Command, info, dump}
-use Rattle.model_player.specs.Texts.{usage_line, constants_fault_line, fault_line, info_text}
+use Rattle.model_player.specs.Commands.{Command, info, dump, play}
+use Rattle.model_player.specs.Texts.{usage_line, constants_fault_line, fault_line, script_fault_line, info_text}
 
 -- how an output is written: by one put, or by several, one part after the other
 pub data Puts : Type 0 where
@@ -48,6 +53,13 @@ film_refusal fault = refuses statuses.Film (fault_line fault)
 abbrev pub reads_film : List ℕ → (List FilmLink → Course) → Course
 reads_film name next = reads name FILM_LIMIT (λ bytes. judged (film_of bytes) film_refusal next)
 
+abbrev pub script_refusal : ScriptFault → Duty
+script_refusal fault = refuses statuses.Script (script_fault_line fault)
+
+abbrev pub reads_script : List ℕ → (List (List script_commands.Command) → Course) → Course
+reads_script name next =
+    reads name SCRIPT_LIMIT (λ bytes. judged (script_of bytes) script_refusal next)
+
 -- ---- commands
 
 -- of words that are no command, and of each command
@@ -57,3 +69,6 @@ course_of (Some (info film)) =
     reads_film film (λ links. comes_to (writes at_once (info_text links)))
 course_of (Some (dump constants film)) = reads_constants constants (λ tables.
     reads_film film (λ links. comes_to (writes in_parts (dump_of tables links))))
+course_of (Some (play constants film script counts)) = reads_constants constants (λ tables.
+    reads_film film (λ links. reads_script script (λ lanes.
+    comes_to (writes in_parts (concat (report_of tables links lanes))))))

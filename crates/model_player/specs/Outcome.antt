@@ -5,16 +5,9 @@ use Rattle.vf_outside.specs.Told.{Told, MayGive, MayBeTooLong, AppendsPart}
 use Rattle.vf_outside.specs.Faults.{Rose}
 use Rattle.model_player.specs.declared.status.Status.{Status}
 use Rattle.model_player.specs.declared.status.Status.TheVariants as statuses
-use Rattle.model_player.specs.Commands.{Command}
+use Rattle.model_player.specs.Commands.{Command, Plays}
 use Rattle.model_player.specs.Texts.{memory_line, cannot_read_line, too_long_line}
 use Rattle.model_player.specs.Courses.{Puts, in_parts, Duty, writes, refuses, Course, comes_to, reads, course_of}
-
--- ---- what waits for later commands
-
--- No command so far takes part in threads, so `player_alone` answers None to none of them, and no
--- gate is reached at a point. This is what is said of both.
-abbrev pub Waits : Type 0
-Waits = ⊥
 
 -- ---- the runs of a shelf and of a sink
 
@@ -165,3 +158,20 @@ pub record Runs (command : Option Command) (shelf : ShelfRun) (out notes : SinkR
   pub outcome : Outcome (course_of command) shelf out notes status
   pub completes : Completes (course_of command) shelf out notes status
   pub usage : status ≡ statuses.Usage → command ≡ None
+
+-- ---- without threads
+
+-- What is promised of a run without threads: the same, and that the command is no play.
+pub record RunsAlone (command : Option Command) (shelf : ShelfRun) (out notes : SinkRun)
+    (status : Status) : Type 0 where
+  pub alone : ¬ Plays command
+  pub runs : Runs command shelf out notes status
+
+-- A play was left to a run with threads, and nothing was used for it: the shelf and the sinks, each
+-- before and after, are what they were.
+pub record IsLeft {F K N : Type 0} (command : Option Command) (shelf : F × F) (out : K × K)
+    (notes : N × N) : Type 0 where
+  pub play : Plays command
+  pub shelf_stays : shelf.1 ≡ shelf.0
+  pub out_stays : out.1 ≡ out.0
+  pub notes_stays : notes.1 ≡ notes.0

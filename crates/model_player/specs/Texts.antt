@@ -13,6 +13,8 @@ use Rattle.model_line.specs.Index.{facts_of}
 use Rattle.model_line.specs.FaultTexts.{fault_text}
 use Rattle.model_line.specs.Acceptance.{FilmLink}
 use Rattle.model_line.specs.PacketRows.{rows_of, sized_links}
+use Rattle.model_script.specs.declared.fault.ScriptFault.{ScriptFault}
+use Rattle.model_script.specs.Texts as scripts
 
 -- the line of a link of this number, without its end
 abbrev pub counts_text : ℕ → LinkCounts → List ℕ
@@ -87,3 +89,7 @@ constants_fault_line fault = constants_fault_text fault ++ line_end
 -- a film that is refused
 abbrev pub fault_line : FilmFault → List ℕ
 fault_line fault = fault_text fault ++ line_end
+
+-- a script that is refused
+abbrev pub script_fault_line : ScriptFault → List ℕ
+script_fault_line fault = scripts.fault_text fault ++ line_end

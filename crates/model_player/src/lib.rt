@@ -2,8 +2,13 @@
 //! statuses with their causes.
 #![tactic(auto)]
 
+mod counts;
 mod limits;
 mod status;
 
-pub use limits::{CONSTANTS_LIMIT, FILM_LIMIT};
+pub use counts::Counts;
+pub use limits::{
+    CONSTANTS_LIMIT, FILM_LIMIT, LEAST_SETUPS, LEAST_SLOTS, MOST_HELPERS, MOST_SETUPS, MOST_SLOTS,
+    SCRIPT_LIMIT,
+};
 pub use status::Status;

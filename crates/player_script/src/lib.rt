@@ -14,6 +14,7 @@ pub use model_script::{
     ScriptFault, Which,
 };
 pub use script::Script;
+pub use words::number;
 
 #[cfg(test)]
 mod tests;

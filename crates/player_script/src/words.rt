@@ -50,8 +50,12 @@ fn is_plain(word: &[u8]) -> bool
     }
 }
 
-/// The number that a word is.
-fn number(word: &[u8]) -> Result<u64, LineCause>
+/// The number that a word is: plain decimal, without a leading zero, below 2^64.
+///
+/// # Errors
+///
+/// `Number` where the word is none.
+pub fn number(word: &[u8]) -> Result<u64, LineCause>
     ensures { MatchResult result
         (λ n. (is_number word.now ≡ true) × (n ≡ value_of word.now))
         (λ cause. (is_number word.now ≡ false) × (cause ≡ LineCause.Number)) }

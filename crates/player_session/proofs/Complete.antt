@@ -6,8 +6,9 @@ use Rattle.model_player.specs.declared.status.Status.{Status}
 use Rattle.model_player.specs.declared.status.Status.TheVariants as statuses
 use Rattle.model_line.specs.Acceptance.{film_of}
 use Rattle.model_synthesis.specs.ConstantsFile.{constants_of}
-use Rattle.model_player.specs.Commands.{Command, info, dump}
-use Rattle.model_player.specs.Courses.{Duty, writes, refuses, Course, comes_to, reads, judged, constants_refusal, film_refusal, reads_film, course_of}
+use Rattle.model_script.specs.Scripts.{script_of}
+use Rattle.model_player.specs.Commands.{Command, info, dump, play}
+use Rattle.model_player.specs.Courses.{Duty, writes, refuses, Course, comes_to, reads, judged, constants_refusal, film_refusal, script_refusal, reads_film, course_of}
 use Rattle.model_player.specs.Outcome.{ShelfRun, SinkRun, MayHave, MayComeTo, MustComeTo, too_long, Does, Outcome, Completes, Runs}
 
 -- ---- what may be due is what must be
@@ -76,6 +77,9 @@ unfolding NotUsage
 command_never (info film) = λ bytes. judged_never (film_of bytes) film_refusal _ (λ fault line e. cc) (λ links line e. cc)
 command_never (dump constants film) = λ bytes. judged_never (constants_of bytes) constants_refusal _ (λ fault line e. cc)
     (λ tables film_bytes. judged_never (film_of film_bytes) film_refusal _ (λ fault line e. cc) (λ links line e. cc))
+command_never (play constants film script counts) = λ bytes. judged_never (constants_of bytes) constants_refusal _ (λ fault line e. cc)
+    (λ tables film_bytes. judged_never (film_of film_bytes) film_refusal _ (λ fault line e. cc)
+    (λ links script_bytes. judged_never (script_of script_bytes) script_refusal _ (λ fault line e. cc) (λ lanes line e. cc)))
 
 usage : (command : Option Command) (shelf : ShelfRun) (out notes : SinkRun) (status : Status) → Outcome (course_of command) shelf out notes status → status ≡ statuses.Usage → command ≡ None
 usage None shelf out notes status o e = refl

@@ -6,11 +6,13 @@ mod dump;
 mod files;
 mod info;
 mod notes;
+mod play;
 mod stops;
 mod texts;
 mod top;
 
 pub use model_line::{FilmFault, LinkCounts, LinkFacts, MOST_CHANNELS, MOST_ENTRIES};
-pub use model_player::{CONSTANTS_LIMIT, FILM_LIMIT, Status};
+pub use model_player::{CONSTANTS_LIMIT, FILM_LIMIT, SCRIPT_LIMIT, Status};
 pub use model_synthesis::ConstantsFault;
+pub use player_script::{LineCause, ScriptFault, Which};
 pub use top::{player, player_alone};

@@ -5,6 +5,7 @@ ghost use Rattle.player_session.specs.Steps.{FinishesStop, IsRefusal, StopsBy};
 
 use crate::notes::{write_memory, write_note};
 use model_player::Status;
+use sequence::NoMemory;
 use std::alloc::AllocError;
 use vf_outside::Sink;
 
@@ -13,6 +14,17 @@ use vf_outside::Sink;
 pub enum Stop {
     Refused { status: Status, line: String },
     Memory,
+}
+
+impl From<NoMemory> for Stop {
+    ghost use Rattle.std.specs.Prelude.{◌≡◌};
+    ghost use Rattle.player_session.specs.declared.stops.Stop.TheVariants.{Memory};
+
+    ghost from_gives = { λ _ stop. stop ≡ Memory };
+
+    fn from(_: NoMemory) -> Self {
+        Stop::Memory
+    }
 }
 
 /// The refusal with this status and this line, if memory was found for the line.

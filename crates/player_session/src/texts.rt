@@ -3,11 +3,12 @@ ghost use Rattle.std.specs.List.{flat_map, enumerate_from};
 ghost use Rattle.model_line.specs.Acceptance.{FilmLink};
 ghost use Rattle.model_line.specs.PacketRows.{rows_of};
 ghost use Rattle.model_line.specs.Index.{Indexes};
-ghost use Rattle.model_player.specs.Texts.{counts_text, head_text, frames_text, lines_by, link_lines, total_line, info_text, constants_fault_line, fault_line, cannot_read_line, too_long_line};
+ghost use Rattle.model_player.specs.Texts.{counts_text, head_text, frames_text, lines_by, link_lines, total_line, info_text, constants_fault_line, fault_line, script_fault_line, cannot_read_line, too_long_line};
 
 use film_blocks::Film;
 use model_line::{FilmFault, LinkCounts, LinkFacts};
 use model_synthesis::ConstantsFault;
+use player_script::ScriptFault;
 use std::alloc::{AllocError, Global};
 
 /// The line of a film that cannot be read.
@@ -35,6 +36,14 @@ pub fn constants_fault_line(alloc: Global, fault: &ConstantsFault) -> Result<Str
 /// The line of a film that is refused.
 pub fn fault_line(alloc: Global, fault: &FilmFault) -> Result<String, AllocError>
     ensures line { IfOk result (λ line. string_bytes line ≡ fault_line fault.now) }
+    ensures some { IfOk result (λ line. 0 < string_len line) }
+{
+    format!(in alloc; "{fault}\n")
+}
+
+/// The line of a script that is refused.
+pub fn script_fault_line(alloc: Global, fault: &ScriptFault) -> Result<String, AllocError>
+    ensures line { IfOk result (λ line. string_bytes line ≡ script_fault_line fault.now) }
     ensures some { IfOk result (λ line. 0 < string_len line) }
 {
     format!(in alloc; "{fault}\n")

@@ -3,7 +3,7 @@ use Rattle.model_player.specs.Courses.{reads_constants, reads_film}
 use Rattle.model_player.specs.Outcome.{MayComeTo}
 use Rattle.player_session.proofs.Outcomes.{StopsBy-weaker}
 use Rattle.player_session.proofs.Readings.{first_within, second_within}
-use Rattle.player_session.proofs.dump.read_reel.Goals as goal
+use Rattle.player_session.proofs.files.read_reel.Goals as goal
 
 pub returns-in_err-constants-clause-course : goal.returns-in_err-constants-clause-course
 returns-in_err-constants-clause-course g c =
