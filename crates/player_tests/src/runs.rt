@@ -3,6 +3,7 @@
 mod dumps;
 mod films;
 mod library_example;
+mod plays;
 
 use player_session::{Status, player, player_alone};
 use std::alloc::{AllocError, Global};

@@ -16,7 +16,7 @@ fn add_numbers(bytes: &mut Vec<u8>, value: u32, count: usize) -> Result<(), Allo
 
 /// A constants file whose numbers are all 1: decibel values in units of 2^-30, and slopes and
 /// cosines in units of 2^-23. The cosine of this number has another value, if one is given.
-fn constants(alloc: Global, other: Option<(usize, u32)>) -> Result<Vec<u8>, AllocError> {
+pub fn constants(alloc: Global, other: Option<(usize, u32)>) -> Result<Vec<u8>, AllocError> {
     let one = 1 << 23;
     let mut bytes = CONSTANTS_WORD.to_vec(alloc)?;
     add_numbers(&mut bytes, 1 << 30, DECIBEL_COUNT)?;
