@@ -1,10 +1,14 @@
-//! Reads the bits of a packet (Vorbis I, section 2).
+//! Reads the bits of a packet, and writes bits (Vorbis I, section 2).
 #![tactic(auto)]
 
 ghost use Rattle.std.specs.Prelude.{◌≡◌, ◌≤◌, ◌<◌, ◌+◌, ◌*◌, ◌-◌, ◌^◌, ◌/◌, ◌%◌, [], length, take, drop, IfSome, IfNone, Some, None};
 ghost use Rattle.model_bits.specs.Bits.{take_bits, bits_of, number_of};
 
+mod bits_out;
+
+pub use bits_out::BitsOut;
 use byteorder::{ByteOrder, LittleEndian};
+pub use sequence::NoMemory;
 use std::marker::Model;
 
 /// The bits of a packet that are left to be read, of each byte the lowest first.

@@ -8,3 +8,5 @@ mod chains;
 mod entries;
 #[cfg(test)]
 mod pages;
+#[cfg(test)]
+mod written_pages;

@@ -6,3 +6,5 @@ pub mod Times
 pub mod Repeat
 pub mod Examples
 pub mod Each
+pub mod ReadsBack
+pub mod WasRead

@@ -1,3 +1,4 @@
 pub mod Bits
 pub mod Places
 pub mod Reading
+pub mod Writing

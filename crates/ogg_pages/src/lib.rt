@@ -1,10 +1,11 @@
-//! Finds the pages of an Ogg file (RFC 3533, section 6).
+//! Finds the pages of an Ogg file, and writes pages (RFC 3533, section 6).
 #![tactic(auto)]
 
 mod checksums;
 mod crc;
 mod leap_tables;
 mod leaps;
+mod page_out;
 mod parts;
 mod ring;
 mod scanner;
@@ -12,6 +13,7 @@ mod tables;
 
 pub use crc::checksum;
 pub use model_ogg::PageRef;
+pub use page_out::{PageOut, page_bytes};
 pub use parts::{body, laces, segment_place};
 pub use scanner::{next_page, scan};
 pub use sequence::NoMemory;

@@ -1,4 +1,4 @@
-use Rattle.std.proofs.Common.{◌∙◌, arith, refl}
+use Rattle.std.proofs.Common.{◌∙◌, arith}
 use Rattle.bit_reader.proofs.Words.{little_number-bits, little_number_some}
 use Rattle.bit_reader.proofs.first_pair.Goals as goal
 
