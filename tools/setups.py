@@ -1,9 +1,10 @@
 #!/usr/bin/env python3
 """Setup packets and heads of audio packets, for the tables of the tests.
 
-    tools/setups.py rows    prints crates/decoding_tests/src/setups/rows.rt
-    tools/setups.py films   prints crates/decoding_tests/src/setups/films.rt, by oggenc
-    tools/setups.py bench   prints the setup packet of a stereo film of quality 5 as a constant, by oggenc
+    tools/setups.py rows       prints crates/setup_tests/src/setups/rows.rt
+    tools/setups.py films      prints crates/setup_tests/src/setups/films.rt, by oggenc
+    tools/setups.py smallest   prints the smallest setup as it is written, as a constant
+    tools/setups.py bench      prints the setup packet of a stereo film of quality 5 as a constant, by oggenc
 
 Each packet of the rows is the smallest setup with a few of its parts changed; one that is refused ends in the
 byte of the field that is wrong. What the accepted packets hold is read by tools/decode.py, which shares nothing
@@ -302,13 +303,19 @@ use super::{Accepted, Contents};
               f'packet: {rust_packet(data)}, contents: {contents(channels, data)} }};\n')
 
 
+def print_smallest():
+    # a multiplicand of 16 bits
+    wide = book(lookup=[(0x62400001, 32), (0, 32), (15, 4), (0, 1), (0, 16)])
+    print(f'const SMALLEST: &[u8] = {rust_packet(written(packet(books=[wide])))};')
+
+
 def print_bench():
     data = encoded(2, 44100, 5)
     print(f'const SETUP: &[u8] = {rust_packet(data)};')
 
 
 if __name__ == '__main__':
-    tables = {'rows': print_rows, 'films': print_films, 'bench': print_bench}
+    tables = {'rows': print_rows, 'films': print_films, 'smallest': print_smallest, 'bench': print_bench}
     if len(sys.argv) != 2 or sys.argv[1] not in tables:
         sys.exit(__doc__)
     tables[sys.argv[1]]()

@@ -1,5 +1,5 @@
 -- Multiplicands in units, and a division by a factor.
-use Rattle.std.proofs.Common.{◌≡◌, ℕ, suc, ◌+◌, ◌-◌, ◌*◌, ◌/◌, ◌%◌, ◌^◌, ◌<◌, ◌≤◌, ℤ, pos, ◌+ℤ◌, unsigned_abs, List, ◌++◌, [], ◌∷◌, length, get_or, map, take, refl, ap, sym, ◌∙◌, arith, w64, to_z, of_z}
+use Rattle.std.proofs.Common.{◌≡◌, ℕ, suc, ◌+◌, ◌-◌, ◌*◌, ◌/◌, ◌%◌, ◌^◌, ◌<◌, ◌≤◌, ℤ, pos, unsigned_abs, List, ◌++◌, [], ◌∷◌, length, get_or, map, take, ap, ◌∙◌, arith, w64, to_z, of_z}
 use Rattle.std.specs.Prelude.{FitsSigned}
 use Rattle.std.proofs.lemmas.Int.{ints, to_z-of_z, fits_signed_from_abs}
 use Rattle.std.proofs.lemmas.List.{get_or-map, length-map, map-append, take_more}
@@ -8,7 +8,7 @@ use Rattle.std.proofs.Math.Nat.{mul-le-mul_left, lt_of_mul-lt-mul_right, le_of_m
 use Rattle.model_fixed.specs.Fixed.{fix, scaled, with_sign, is_below_zero, mantissa, exponent}
 use Rattle.model_setup.specs.Codebook.{Lookup}
 use Rattle.codebooks.proofs.SmallVectors.{clamp_small}
-use Rattle.codebooks.specs.Units.{unit_of, factor_of}
+use Rattle.codebooks.specs.Units.{unit_of}
 
 -- a product with the factor, divided by a power, is the quotient
 pub by_factor : (m n b : ℕ) → 0 < b → n * b < m → n * (m / b + 1) / m ≡ n / b

@@ -1,10 +1,12 @@
-ghost use Rattle.std.specs.Prelude.{◌≡◌, ◌≤◌, ◌<◌, ◌+◌, length, take, drop, [], Some, None, IfSome, IfNone, IfOk, OnSome, IsSome, is_some};
+ghost use Rattle.std.specs.Prelude.{◌≡◌, ◌≤◌, ◌<◌, ◌+◌, length, take, drop, [], Some, None, IfSome, IfNone, IfOk, OnOk, OnSome, IsSome, is_some};
 ghost use Rattle.std.specs.List.{All};
 ghost use Rattle.model_fixed.specs.Fixed.{IsWithinLimit};
 ghost use Rattle.sequence.specs.Answers.{Answers};
 ghost use Rattle.model_setup.specs.Codewords.{book_words, entry_at};
 ghost use Rattle.model_setup.specs.Vectors.{vector_at};
 ghost use Rattle.model_setup.specs.BookReading.{front_at, length_list_at, lengths_at, book_at, multiplicands_of};
+ghost use Rattle.model_writing.specs.SetupWriting.{book_fields};
+ghost use Rattle.field_writing.specs.Puts.{ArePut, HavePlaces};
 ghost use Rattle.codebooks.specs.Free.{IsLengthIfUsed};
 ghost use Rattle.codebooks.specs.Books.{IsTree};
 ghost use Rattle.codebooks.specs.Layouts.{AreLaid};
@@ -12,10 +14,11 @@ ghost use Rattle.codebooks.specs.Tables.{IsWholeIfSome};
 ghost use Rattle.codebooks.specs.FirstValues.{first_values_of};
 
 use crate::fields::read_field;
-use crate::lengths::{read_ordered_lengths, read_unordered_lengths};
-use crate::lookup::{VectorTable, read_lookup};
+use crate::lengths::{read_ordered_lengths, read_unordered_lengths, write_lengths};
+use crate::lookup::{VectorTable, read_lookup, write_lookup};
 use crate::word_table::WordTable;
-use bit_reader::Bits;
+use bit_reader::{Bits, BitsOut, NoMemory};
+use field_writing::put_number;
 use model_setup::{BookFault, Budget, DIMENSION_LIMIT, ENTRY_LIMIT};
 use std::alloc::{AllocError, Global};
 use std::marker::Model;
@@ -23,6 +26,9 @@ use std::marker::Model;
 /// The most values that the vectors of a book may be for all of them to be laid out when it is
 /// read: 64 KiB of them.
 const MOST_LAID_OUT: u64 = 8192;
+
+/// What every codebook begins with: the letters "BCV".
+const SYNC: u32 = 0x56_4342;
 
 /// A codebook: how entries and their vectors are read from a packet (Vorbis I, section 3).
 #[derive(Drop)]
@@ -61,7 +67,7 @@ fn read_front(bits: &mut Bits, most: u32) -> Result<(u16, u32), BookFault>
     ensures within { IfOk result (λ f. f.1 ≤ most) }
 {
     let sync = read_field(bits, 24)?;
-    if sync != 0x56_4342 {
+    if sync != SYNC {
         return Err(BookFault::Sync);
     }
     let dimensions = read_field(bits, 16)?;
@@ -172,6 +178,20 @@ impl Book {
             table,
             vectors,
         })
+    }
+
+    /// Writes the codebook behind the bits that were put before: not ordered, sparse exactly where
+    /// an entry is unused, and with multiplicands of 16 bits. Where no memory is found, the bits
+    /// are of no use.
+    pub fn write(&self, out: &mut BitsOut) -> Result<(), NoMemory>
+        requires { HavePlaces (book_fields self.now) }
+        ensures { OnOk result (ArePut out.old out.new (book_fields self.now)) }
+    {
+        put_number(out, 24, SYNC)?;
+        put_number(out, 16, u32::from(self.dimensions))?;
+        put_number(out, 24, self.lengths.len() as u32)?;
+        write_lengths(out, &self.lengths)?;
+        write_lookup(out, &self.table)
     }
 
     /// How many values the vector of an entry has.

@@ -1,12 +1,15 @@
-ghost use Rattle.std.specs.Prelude.{◌≡◌, ◌≤◌, ◌<◌, ◌+◌, ◌-◌, ◌++◌, length, replicate, IfOk, IfSome, Ok, Some};
-ghost use Rattle.std.specs.List.{All};
+ghost use Rattle.std.specs.Prelude.{◌≡◌, ◌≤◌, ◌<◌, ◌+◌, ◌-◌, ◌++◌, length, replicate, IfOk, IfSome, OnOk, Ok, Some};
+ghost use Rattle.std.specs.List.{All, flat_map};
 ghost use Rattle.model_bits.specs.Reading.{times};
 ghost use Rattle.sequence.specs.Answers.{Answers};
 ghost use Rattle.model_setup.specs.BookReading.{field, ilog, length_at, entry_length_at, runs_at, ordered_lengths_at, unordered_lengths_at};
+ghost use Rattle.model_writing.specs.SetupWriting.{is_sparse, entry_fields, length_fields};
+ghost use Rattle.field_writing.specs.Puts.{ArePut, HavePlaces};
 ghost use Rattle.codebooks.specs.Free.{IsLength, IsLengthIfUsed};
 
 use crate::fields::read_field;
-use bit_reader::Bits;
+use bit_reader::{Bits, BitsOut, NoMemory};
+use field_writing::{put_count, put_flag};
 use model_setup::BookFault;
 use std::alloc::Global;
 
@@ -145,4 +148,53 @@ pub fn read_ordered_lengths(
 {
     let first = read_field(bits, 5)?;
     read_runs(alloc, bits, first as u8 + 1, entries)
+}
+
+/// Whether an entry is unused.
+fn is_sparse(lengths: &[Option<u8>]) -> bool
+    ensures { result ≡ is_sparse lengths.now }
+{
+    lengths.iter().any(|len| len.is_none())
+}
+
+/// Writes the length of an entry's codeword, behind the flag that a sparse book has for it.
+fn write_entry_length(out: &mut BitsOut, sparse: bool, len: Option<u8>) -> Result<(), NoMemory>
+    requires { HavePlaces (entry_fields sparse len) }
+    ensures { OnOk result (ArePut out.old out.new (entry_fields sparse len)) }
+{
+    match (sparse, len) {
+        (true, None) => put_flag(out, false),
+        (true, Some(len)) => {
+            put_flag(out, true)?;
+            put_count(out, 5, u32::from(len))
+        }
+        (false, None) => Ok(()),
+        (false, Some(len)) => put_count(out, 5, u32::from(len)),
+    }
+}
+
+/// Writes the length of each entry's codeword.
+fn write_entry_lengths(
+    out: &mut BitsOut,
+    sparse: bool,
+    lengths: &[Option<u8>],
+) -> Result<(), NoMemory>
+    requires { HavePlaces (flat_map (entry_fields sparse) lengths.now) }
+    ensures { OnOk result (ArePut out.old out.new (flat_map (entry_fields sparse) lengths.now)) }
+{
+    for len in lengths {
+        write_entry_length(out, sparse, *len)?;
+    }
+    Ok(())
+}
+
+/// Writes the lengths of a book, not in order, and sparse exactly where an entry is unused.
+pub fn write_lengths(out: &mut BitsOut, lengths: &[Option<u8>]) -> Result<(), NoMemory>
+    requires { HavePlaces (length_fields lengths.now) }
+    ensures { OnOk result (ArePut out.old out.new (length_fields lengths.now)) }
+{
+    let sparse = is_sparse(lengths);
+    put_flag(out, false)?;
+    put_flag(out, sparse)?;
+    write_entry_lengths(out, sparse, lengths)
 }

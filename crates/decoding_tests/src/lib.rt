@@ -1,5 +1,5 @@
-//! The tests of the crates that read setups and packets. They stand above those crates, so that
-//! each of those is proved once, without tests.
+//! The tests of the crates that read packets, books, floors and residues. They stand above those
+//! crates, so that each of those is proved once, without tests.
 #![tactic(auto)]
 
 #[cfg(test)]
@@ -14,5 +14,3 @@ mod given_books;
 mod head_fields;
 #[cfg(test)]
 mod residue_vectors;
-#[cfg(test)]
-mod setups;

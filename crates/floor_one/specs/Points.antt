@@ -1,11 +1,13 @@
 -- What the private parts of a floor's points keep.
-use Rattle.std.specs.Prelude.{◌≡◌, ℕ, ◌-◌, ◌<◌, ◌≤◌, ◌^◌, List, [], ◌∷◌, length, map, Bool, Result, slice_index}
-use Rattle.std.specs.List.{AllPairs, range_with_len}
+use Rattle.std.specs.Prelude.{◌≡◌, ℕ, ◌-◌, ◌<◌, ◌≤◌, ◌^◌, List, [], ◌∷◌, ◌++◌, length, drop, map, Bool, Result, slice_index}
+use Rattle.std.specs.List.{AllPairs, flat_map, range_with_len}
 use Rattle.std.specs.List.Sorted.{IsPermutation}
 use Rattle.model_bits.specs.Reading.{with_front}
+use Rattle.model_bits.specs.Writing.{WrittenField}
 use Rattle.model_setup.specs.declared.floor.TheConstants.{MOST_POINTS}
 use Rattle.model_setup.specs.FloorSetup.{ArePoints}
 use Rattle.model_setup.specs.FloorCurve.{low_neighbour, high_neighbour}
+use Rattle.model_writing.specs.SetupWriting.{in_bits, range_bits}
 use Rattle.floor_one.specs.declared.points.Neighbours.{Neighbours}
 use Rattle.floor_one.specs.declared.points.Position.{Position}
 
@@ -53,3 +55,8 @@ pub record IsGeometry (x_values : List ℕ) (nearest : List Neighbours)
     pub points : ArePoints x_values
     pub neighbours : nearest ≡ neighbours_of x_values
     pub order : AreInOrder x_values sorted
+
+-- the fields of the points: the range, and the bins of those behind the first two
+abbrev pub point_fields : List ℕ → List WrittenField
+point_fields x_values =
+    in_bits 4 (range_bits x_values) ++ flat_map (in_bits (range_bits x_values)) (drop 2 x_values)

@@ -1,12 +1,15 @@
-ghost use Rattle.std.specs.Prelude.{◌≡◌, ◌≤◌, ◌<◌, length, IfOk, IfSome, is_some, nat_lt};
-ghost use Rattle.std.specs.List.{All};
+ghost use Rattle.std.specs.Prelude.{◌≡◌, ◌≤◌, ◌<◌, length, IfOk, OnOk, IfSome, is_some, nat_lt};
+ghost use Rattle.std.specs.List.{All, flat_map};
 ghost use Rattle.model_bits.specs.Reading.{leaving, times};
 ghost use Rattle.model_setup.specs.FloorSetup.{IsFloorClass, NamesBooks};
 ghost use Rattle.model_setup.specs.FloorReading.{master_at, class_at, subclass_book_at};
+ghost use Rattle.model_writing.specs.SetupWriting.{subclass_book_fields, class_fields};
+ghost use Rattle.field_writing.specs.Puts.{ArePut, HavePlaces};
 
 use crate::fields::{read_book, read_field, read_subclass_book};
 use arrayvec::ArrayVec;
-use bit_reader::Bits;
+use bit_reader::{Bits, BitsOut, NoMemory};
+use field_writing::{put_book, put_count, put_number};
 use model_setup::FloorFault;
 use std::marker::Model;
 
@@ -87,4 +90,39 @@ pub fn read_class(bits: &mut Bits, books: u32) -> Result<Class, FloorFault>
         master,
         books: subclass_books,
     })
+}
+
+/// Writes the book of a subclass, or that it has none.
+fn write_subclass_book(out: &mut BitsOut, book: Option<u8>) -> Result<(), NoMemory>
+    requires { HavePlaces (subclass_book_fields book) }
+    ensures { OnOk result (ArePut out.old out.new (subclass_book_fields book)) }
+{
+    match book {
+        Some(book) => put_number(out, 8, u32::from(book) + 1),
+        None => put_number(out, 8, 0),
+    }
+}
+
+/// Writes the books of subclasses.
+fn write_subclass_books(out: &mut BitsOut, books: &[Option<u8>]) -> Result<(), NoMemory>
+    requires { HavePlaces (flat_map subclass_book_fields books.now) }
+    ensures { OnOk result (ArePut out.old out.new (flat_map subclass_book_fields books.now)) }
+{
+    for book in books {
+        write_subclass_book(out, *book)?;
+    }
+    Ok(())
+}
+
+impl Class {
+    /// Writes the class.
+    pub fn write(&self, out: &mut BitsOut) -> Result<(), NoMemory>
+        requires { HavePlaces (class_fields self.now) }
+        ensures { OnOk result (ArePut out.old out.new (class_fields self.now)) }
+    {
+        put_count(out, 3, u32::from(self.dimensions))?;
+        put_number(out, 2, u32::from(self.subclass_bits))?;
+        put_book(out, self.master)?;
+        write_subclass_books(out, &self.books)
+    }
 }

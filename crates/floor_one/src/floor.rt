@@ -1,15 +1,18 @@
-ghost use Rattle.std.specs.Prelude.{◌≡◌, ◌≤◌, ◌<◌, ◌*◌, length, IfOk};
-ghost use Rattle.std.specs.List.{All};
+ghost use Rattle.std.specs.Prelude.{◌≡◌, ◌≤◌, ◌<◌, ◌*◌, length, IfOk, OnOk};
+ghost use Rattle.std.specs.List.{All, flat_map};
 ghost use Rattle.model_bits.specs.Reading.{leaving, times};
 ghost use Rattle.model_setup.specs.FloorSetup.{IsFloorClass, NamesBooks, FloorNamesBooks, ArePoints, IsFloor, class_count, value_count};
 ghost use Rattle.model_setup.specs.FloorReading.{floor_field, partition_classes_at, class_at, floor_at};
 ghost use Rattle.model_setup.specs.FloorPacket.{range_of};
+ghost use Rattle.model_writing.specs.SetupWriting.{class_fields, floor_fields};
+ghost use Rattle.field_writing.specs.Puts.{ArePut, HavePlaces};
 
 use crate::class::{Class, read_class};
 use crate::fields::read_field;
 use crate::points::{Points, read_points};
 use arrayvec::ArrayVec;
-use bit_reader::Bits;
+use bit_reader::{Bits, BitsOut, NoMemory};
+use field_writing::{put_bytes, put_count, put_number};
 use model_setup::FloorFault;
 use std::marker::Model;
 
@@ -116,6 +119,17 @@ fn value_count(partitions: &[u8], classes: &[Class]) -> u32
     count
 }
 
+/// Writes classes.
+fn write_classes(out: &mut BitsOut, classes: &[Class]) -> Result<(), NoMemory>
+    requires { HavePlaces (flat_map class_fields classes.now) }
+    ensures { OnOk result (ArePut out.old out.new (flat_map class_fields classes.now)) }
+{
+    for class in classes {
+        class.write(out)?;
+    }
+    Ok(())
+}
+
 impl Floor {
     /// Reads a floor, in a setup of so many books. The first cause of a refusal in reading order is
     /// answered; the bits are of no use then. It takes no memory.
@@ -137,6 +151,19 @@ impl Floor {
             multiplier: multiplier as u8,
             points,
         })
+    }
+
+    /// Writes the floor behind the bits that were put before. Where no memory is found, the bits
+    /// are of no use.
+    pub fn write(&self, out: &mut BitsOut) -> Result<(), NoMemory>
+        requires { HavePlaces (floor_fields self.now) }
+        ensures { OnOk result (ArePut out.old out.new (floor_fields self.now)) }
+    {
+        put_number(out, 5, self.partitions.len() as u32)?;
+        put_bytes(out, 4, &self.partitions)?;
+        write_classes(out, &self.classes)?;
+        put_count(out, 2, u32::from(self.multiplier))?;
+        self.points.write(out)
     }
 
     /// The class of each partition.

@@ -1,14 +1,17 @@
-ghost use Rattle.std.specs.Prelude.{◌≡◌, ◌≤◌, ◌<◌, ◌^◌, ◌+◌, length, IfOk};
+ghost use Rattle.std.specs.Prelude.{◌≡◌, ◌≤◌, ◌<◌, ◌^◌, ◌+◌, length, IfOk, OnOk};
 ghost use Rattle.model_bits.specs.Reading.{leaving, times};
 ghost use Rattle.model_setup.specs.declared.floor.TheConstants.{MOST_POINTS};
 ghost use Rattle.model_setup.specs.FloorSetup.{is_distinct, ArePoints};
 ghost use Rattle.model_setup.specs.FloorReading.{floor_field, x_values_at};
 ghost use Rattle.model_setup.specs.FloorCurve.{low_neighbour, high_neighbour};
-ghost use Rattle.floor_one.specs.Points.{AreEnds, AreInOrder, neighbours_of, positions_of, with_ends};
+ghost use Rattle.floor_one.specs.Points.{AreEnds, AreInOrder, neighbours_of, point_fields, positions_of, with_ends};
+ghost use Rattle.model_writing.specs.SetupWriting.{range_bits};
+ghost use Rattle.field_writing.specs.Puts.{ArePut, HavePlaces};
 
 use crate::fields::read_field;
 use arrayvec::ArrayVec;
-use bit_reader::Bits;
+use bit_reader::{Bits, BitsOut, NoMemory};
+use field_writing::{put_number, put_words};
 use model_setup::{FloorFault, MOST_POINTS};
 use std::marker::Model;
 
@@ -196,5 +199,24 @@ impl Points {
         ensures order { AreInOrder self.now result.now }
     {
         self.order.as_slice()
+    }
+
+    /// How many bits the bin of a point behind the first two has.
+    fn range_bits(&self) -> u32
+        ensures value { result ≡ range_bits self.now }
+        ensures small { result ≤ 32 }
+    {
+        let last = self.x_values[1] - 1;
+        u32::BITS - u32::from(last).leading_zeros()
+    }
+
+    /// Writes the range, and the bins of the points behind the first two.
+    pub fn write(&self, out: &mut BitsOut) -> Result<(), NoMemory>
+        requires { HavePlaces (point_fields self.now) }
+        ensures { OnOk result (ArePut out.old out.new (point_fields self.now)) }
+    {
+        let width = self.range_bits();
+        put_number(out, 4, width)?;
+        put_words(out, width, &self.x_values[2..])
     }
 }

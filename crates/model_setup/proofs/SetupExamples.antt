@@ -1,11 +1,10 @@
 -- A setup packet and heads of audio packets, by computation.
-use Rattle.std.proofs.Common.{◌≡◌, refl, ℕ, List, [], ◌∷◌, ◌++◌, Some, None, Ok, Err, true, false, Result}
-use Rattle.std.specs.Prelude.{take, slice_set, replicate}
+use Rattle.std.proofs.Common.{◌≡◌, refl, ℕ, List, [], ◌∷◌, ◌++◌, Some, None, Ok, Err, true, false}
+use Rattle.std.specs.Prelude.{replicate}
 use lib.Count.{count_leading_zeros}
 use Rattle.model_setup.specs.declared.book.LookupKind.TheVariants.{Lattice}
 use Rattle.model_setup.specs.declared.residue.ResidueKind.TheVariants.{InRow}
 use Rattle.model_setup.specs.declared.setup.SetupCause.TheVariants as causes
-use Rattle.model_setup.specs.declared.setup.SetupFault.{SetupFault}
 use Rattle.model_setup.specs.declared.setup.SetupFault.TheVariants.{Bad}
 use Rattle.model_setup.specs.declared.setup.PacketHead.TheVariants as heads
 use Rattle.model_setup.specs.Codewords.{size_of, first_free, words_behind, filled, book_words}

@@ -1,6 +1,6 @@
 -- A codebook as its bits stand in a setup packet (Vorbis I, section 3.2.1), with the first cause of
 -- a refusal in reading order.
-use Rattle.std.specs.Prelude.{◌≡◌, ℕ, zero, suc, ◌+◌, ◌-◌, List, [], ◌++◌, length, Option, Some, None, is_some, nat_le, nat_lt, ◌==◌, if◌then◌else◌, replicate}
+use Rattle.std.specs.Prelude.{ℕ, zero, suc, ◌+◌, ◌-◌, List, [], ◌++◌, length, Option, Some, None, is_some, nat_le, nat_lt, ◌==◌, if◌then◌else◌, replicate}
 use Rattle.std.specs.Int.{w32, leading_zeros}
 use Rattle.model_bits.specs.Reading.{Reading, ◌>>=◌, ◌>>◌, give, refuse, require, bits, times}
 use Rattle.model_setup.specs.declared.book.BookFault.{BookFault}

@@ -1,6 +1,6 @@
 -- The setup packet of a Vorbis stream, as its bits stand there (Vorbis I, section 4.2.4), with the
 -- first cause of a refusal in reading order.
-use Rattle.std.specs.Prelude.{◌≡◌, ℕ, ◌+◌, ◌-◌, ◌<◌, ◌≤◌, List, [], length, Option, Bool, not, ◌==◌, nat_lt, if◌then◌else◌, Result, replicate}
+use Rattle.std.specs.Prelude.{◌≡◌, ℕ, ◌+◌, ◌-◌, ◌<◌, ◌≤◌, List, length, Bool, not, ◌==◌, nat_lt, if◌then◌else◌, Result, replicate}
 use Rattle.std.specs.List.{All, range_with_len}
 use Rattle.model_bits.specs.Bits.{bits_of}
 use Rattle.model_bits.specs.Reading.{Reading, ◌>>=◌, ◌>>◌, give, require, bits, times, repeat, each, relabel, without_rest}

@@ -12,3 +12,4 @@ pub mod Crossings
 pub mod ReadingPlaces
 pub mod Silences
 pub mod FirstValues
+pub mod PassFlags

@@ -1,13 +1,16 @@
-ghost use Rattle.std.specs.Prelude.{◌≡◌, ◌≤◌, ◌<◌, ◌^◌, length, IfOk, IfSome};
-ghost use Rattle.std.specs.List.{All};
+ghost use Rattle.std.specs.Prelude.{◌≡◌, ◌≤◌, ◌<◌, ◌^◌, length, IfOk, OnOk, IfSome};
+ghost use Rattle.std.specs.List.{All, flat_map};
 ghost use Rattle.model_bits.specs.Reading.{times, each};
 ghost use Rattle.sequence.specs.Answers.{Answers};
 ghost use Rattle.model_setup.specs.ResidueSetup.{FitsBooks, Serves, has_values};
 ghost use Rattle.model_setup.specs.ResidueReading.{pass_flags_at, pass_book_at, cascade_at, cascades_at, residue_at};
+ghost use Rattle.model_writing.specs.SetupWriting.{residue_type, pass_flags, cascade_fields, master_fields, residue_fields};
+ghost use Rattle.field_writing.specs.Puts.{ArePut, HavePlaces};
 
 use crate::fields::{read_class_book, read_field, read_value_book};
-use bit_reader::Bits;
+use bit_reader::{Bits, BitsOut, NoMemory};
 use codebooks::Book;
+use field_writing::{put_book, put_count, put_flag, put_number};
 use model_setup::{ResidueFault, ResidueKind};
 use std::alloc::Global;
 use std::marker::Model;
@@ -155,7 +158,90 @@ fn read_cascades(
     read_each_cascade(alloc, bits, books, &all_flags)
 }
 
+/// In which passes a class has a book: bit k stands for pass k.
+fn pass_flags(cascade: &Cascade) -> u32
+    ensures flags { result ≡ pass_flags cascade.now }
+    ensures below { result < 2 ^ 8 }
+{
+    let mut flags = 0;
+    for pass in (0..8).rev() {
+        flags = 2 * flags + u32::from(cascade[pass].is_some());
+    }
+    flags
+}
+
+/// Writes in which passes a class has a book.
+fn write_pass_flags(out: &mut BitsOut, cascade: &Cascade) -> Result<(), NoMemory>
+    ensures { OnOk result (ArePut out.old out.new (cascade_fields cascade.now)) }
+{
+    let flags = pass_flags(cascade);
+    let high = flags / 8;
+    put_number(out, 3, flags % 8)?;
+    if high == 0 {
+        return put_flag(out, false);
+    }
+    put_flag(out, true)?;
+    put_number(out, 5, high)
+}
+
+/// Writes in which passes each class has a book.
+fn write_all_flags(out: &mut BitsOut, cascades: &[Cascade]) -> Result<(), NoMemory>
+    ensures { OnOk result (ArePut out.old out.new (flat_map cascade_fields cascades.now)) }
+{
+    for cascade in cascades {
+        write_pass_flags(out, cascade)?;
+    }
+    Ok(())
+}
+
+/// Writes the books of a class.
+fn write_cascade(out: &mut BitsOut, cascade: &Cascade) -> Result<(), NoMemory>
+    ensures { OnOk result (ArePut out.old out.new (flat_map master_fields cascade.now)) }
+{
+    for book in cascade {
+        put_book(out, *book)?;
+    }
+    Ok(())
+}
+
+/// Writes the books of each class.
+fn write_cascades(out: &mut BitsOut, cascades: &[Cascade]) -> Result<(), NoMemory>
+    ensures { OnOk result
+        (ArePut out.old out.new (flat_map (flat_map master_fields) cascades.now)) }
+{
+    for cascade in cascades {
+        write_cascade(out, cascade)?;
+    }
+    Ok(())
+}
+
 impl Residue {
+    /// The type of the residue, 0 to 2.
+    pub fn kind(&self) -> u32
+        ensures { result ≡ residue_type self.now.kind }
+    {
+        match self.kind {
+            ResidueKind::Spread => 0,
+            ResidueKind::InRow => 1,
+            ResidueKind::Interleaved => 2,
+        }
+    }
+
+    /// Writes the residue behind the bits that were put before, without its type. Where no memory
+    /// is found, the bits are of no use.
+    pub fn write(&self, out: &mut BitsOut) -> Result<(), NoMemory>
+        requires { HavePlaces (residue_fields self.now) }
+        ensures { OnOk result (ArePut out.old out.new (residue_fields self.now)) }
+    {
+        put_number(out, 24, self.begin)?;
+        put_number(out, 24, self.end)?;
+        put_count(out, 24, self.partition_size)?;
+        put_count(out, 6, self.cascades.len() as u32)?;
+        put_number(out, 8, u32::from(self.class_book))?;
+        write_all_flags(out, &self.cascades)?;
+        write_cascades(out, &self.cascades)
+    }
+
     /// Reads a residue of a type, 0 to 2, in a setup of these books. The first cause of a refusal
     /// in reading order is answered, or `Memory`; the bits are of no use then (Vorbis I, section
     /// 8.6.1).

@@ -13,8 +13,9 @@ mod setup;
 mod start;
 mod time_transforms;
 
+pub use bit_reader::NoMemory;
 pub use laws::head_goes_by_places;
 pub use mapping::{Coupling, Mapping, Submap};
 pub use model_setup::{PacketHead, SetupCause, SetupFault};
 pub use packet_head::{block_head, head};
-pub use setup::Setup;
+pub use setup::{Setup, setup_bytes};

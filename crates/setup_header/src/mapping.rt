@@ -1,12 +1,16 @@
-ghost use Rattle.std.specs.Prelude.{◌≡◌, ◌≤◌, ◌<◌, length, replicate, IfOk};
-ghost use Rattle.std.specs.List.{All};
+ghost use Rattle.std.specs.Prelude.{◌≡◌, ◌≤◌, ◌<◌, length, replicate, IfOk, OnOk};
+ghost use Rattle.std.specs.List.{All, flat_map};
 ghost use Rattle.model_bits.specs.Reading.{leaving, times};
 ghost use Rattle.sequence.specs.Answers.{Answers};
 ghost use Rattle.model_setup.specs.SetupPacket.{each_number, coupling_at, couplings_at, number_below_at, mux_at, submap_at, mapping_at, mappings_at, IsCoupling, IsSubmap, IsMapping};
+ghost use Rattle.model_writing.specs.SetupWriting.{counted_fields, coupling_fields, mux_fields, submap_fields, mapping_fields};
+ghost use Rattle.field_writing.specs.Puts.{ArePut, HavePlaces};
+ghost use Rattle.setup_header.specs.Setups.{HasFewChannels};
 
 use crate::faults::bad;
 use crate::fields::{read_count, read_count_if_flagged, read_field, read_number_below, read_zero};
-use bit_reader::Bits;
+use bit_reader::{Bits, BitsOut, NoMemory};
+use field_writing::{put_bytes, put_count, put_flagged_count, put_number};
 use model_setup::{SetupCause, SetupFault};
 use std::alloc::Global;
 use std::marker::Model;
@@ -327,4 +331,100 @@ pub fn read_mappings(
 {
     let count = read_count(bits, 6)?;
     read_each_mapping(alloc, bits, bounds, count)
+}
+
+/// Writes a coupling step between two of so many channels.
+fn write_coupling(out: &mut BitsOut, channels: u32, coupling: &Coupling) -> Result<(), NoMemory>
+    requires { HavePlaces (coupling_fields channels coupling.now) }
+    ensures { OnOk result (ArePut out.old out.new (coupling_fields channels coupling.now)) }
+{
+    let width = u32::BITS - channels.saturating_sub(1).leading_zeros();
+    put_number(out, width, u32::from(coupling.magnitude))?;
+    put_number(out, width, u32::from(coupling.angle))
+}
+
+/// Writes each of these coupling steps.
+fn write_each_coupling(
+    out: &mut BitsOut,
+    channels: u32,
+    couplings: &[Coupling],
+) -> Result<(), NoMemory>
+    requires { HavePlaces (flat_map (coupling_fields channels) couplings.now) }
+    ensures { OnOk result
+        (ArePut out.old out.new (flat_map (coupling_fields channels) couplings.now)) }
+{
+    for coupling in couplings {
+        write_coupling(out, channels, coupling)?;
+    }
+    Ok(())
+}
+
+/// Writes the submap of each channel, where there are several.
+fn write_mux(out: &mut BitsOut, submaps: usize, mux: &[u8]) -> Result<(), NoMemory>
+    requires { HavePlaces (mux_fields submaps mux.now) }
+    ensures { OnOk result (ArePut out.old out.new (mux_fields submaps mux.now)) }
+{
+    if submaps > 1 {
+        return put_bytes(out, 4, mux);
+    }
+    Ok(())
+}
+
+/// Writes a submap, behind a placeholder.
+fn write_submap(out: &mut BitsOut, submap: &Submap) -> Result<(), NoMemory>
+    requires { HavePlaces (submap_fields submap.now) }
+    ensures { OnOk result (ArePut out.old out.new (submap_fields submap.now)) }
+{
+    put_number(out, 8, 0)?;
+    put_number(out, 8, u32::from(submap.floor))?;
+    put_number(out, 8, u32::from(submap.residue))
+}
+
+/// Writes each of these submaps.
+fn write_each_submap(out: &mut BitsOut, submaps: &[Submap]) -> Result<(), NoMemory>
+    requires { HavePlaces (flat_map submap_fields submaps.now) }
+    ensures { OnOk result (ArePut out.old out.new (flat_map submap_fields submaps.now)) }
+{
+    for submap in submaps {
+        write_submap(out, submap)?;
+    }
+    Ok(())
+}
+
+/// Writes a mapping.
+fn write_mapping(out: &mut BitsOut, mapping: &Mapping) -> Result<(), NoMemory>
+    requires few { HasFewChannels mapping.now }
+    requires fits { HavePlaces (mapping_fields mapping.now) }
+    ensures { OnOk result (ArePut out.old out.new (mapping_fields mapping.now)) }
+{
+    put_number(out, 16, 0)?;
+    put_flagged_count(out, 4, 1, mapping.submaps.len() as u32)?;
+    put_flagged_count(out, 8, 0, mapping.couplings.len() as u32)?;
+    write_each_coupling(out, mapping.mux.len() as u32, &mapping.couplings)?;
+    put_number(out, 2, 0)?;
+    write_mux(out, mapping.submaps.len(), &mapping.mux)?;
+    write_each_submap(out, &mapping.submaps)
+}
+
+/// Writes each of these mappings.
+fn write_each_mapping(out: &mut BitsOut, mappings: &[Mapping]) -> Result<(), NoMemory>
+    requires few { All HasFewChannels mappings.now }
+    requires fits { HavePlaces (flat_map mapping_fields mappings.now) }
+    ensures { OnOk result (ArePut out.old out.new (flat_map mapping_fields mappings.now)) }
+{
+    for mapping in mappings {
+        write_mapping(out, mapping)?;
+    }
+    Ok(())
+}
+
+/// Writes the mappings of a setup.
+pub fn write_mappings(out: &mut BitsOut, mappings: &[Mapping]) -> Result<(), NoMemory>
+    requires few { All HasFewChannels mappings.now }
+    requires fits { HavePlaces (counted_fields 6 mapping_fields mappings.now) }
+    ensures { OnOk result
+        (ArePut out.old out.new (counted_fields 6 mapping_fields mappings.now)) }
+{
+    put_count(out, 6, mappings.len() as u32)?;
+    write_each_mapping(out, mappings)
 }

@@ -22,6 +22,7 @@ fn window_flags(bits: &mut Bits, long: bool) -> Option<(bool, bool)>
 /// The mode and the window flags of a block, which stand behind the first bit of its packet, or
 /// `None` where there is no such mode or the packet ends (Vorbis I, section 4.3.1).
 #[tactic(auto, unfolding(model_setup::specs::AudioHead::block_head_at))]
+#[inline(always)]
 pub fn block_head(bits: &mut Bits, long_flags: &[bool]) -> Option<PacketHead>
     requires some { 1 ≤ length long_flags.now }
     requires few { length long_flags.now ≤ 64 }

@@ -1,42 +1,45 @@
-ghost use Rattle.std.specs.Prelude.{◌≡◌, ◌≤◌, ◌<◌, length, Some, IfOk};
+ghost use Rattle.std.specs.Prelude.{◌≡◌, ◌≤◌, ◌<◌, length, Some, IfOk, OnOk};
+ghost use Rattle.std.specs.List.{All};
+ghost use Rattle.model_bits.specs.Bits.{bits_of};
+ghost use Rattle.model_bits.specs.Writing.{filled, bits_of_fields};
 ghost use Rattle.model_bits.specs.Reading.{leaving};
 ghost use Rattle.sequence.specs.Answers.{Answers};
 ghost use Rattle.model_setup.specs.SetupPacket.{framing_at, setup_at, setup_of, IsSetup};
 ghost use Rattle.model_setup.specs.AudioHead.{long_flags_of};
-ghost use Rattle.setup_header.specs.Setups.{mapping_of};
+ghost use Rattle.model_writing.specs.SetupWriting.{setup_fields};
+ghost use Rattle.field_writing.specs.Puts.{ArePut, HavePlaces};
+ghost use Rattle.setup_header.specs.Setups.{mapping_of, AreReadAs, HasFewChannels};
 
 use crate::faults::bad;
 use crate::fields::read_field;
-use crate::mapping::{Bounds, Mapping, read_mappings};
-use crate::mode::{Mode, read_modes};
-use crate::parts::{read_books, read_floors, read_residues};
-use crate::start::read_start;
-use crate::time_transforms::read_time_transforms;
-use bit_reader::Bits;
+use crate::mapping::{Bounds, Mapping, read_mappings, write_mappings};
+use crate::mode::{Mode, read_modes, write_modes};
+use crate::parts::{
+    read_books, read_floors, read_residues, write_books, write_floors, write_residues,
+};
+use crate::start::{read_start, write_start};
+use crate::time_transforms::{read_time_transforms, write_time_transforms};
+use bit_reader::{Bits, BitsOut, NoMemory};
 use codebooks::Book;
+use field_writing::put_flag;
 use floor_one::Floor;
 use model_setup::{SetupCause, SetupFault};
 use residues::Residue;
 use std::alloc::{AllocError, Global};
 use std::marker::Model;
 
-/// The setup of a stream: the codebooks, floors, residues, mappings and modes by which its audio
-/// packets are decoded (Vorbis I, section 4.2.4).
+/// What stands in a setup packet.
 #[derive(Drop)]
-pub struct Setup {
+struct Parts {
     books: Vec<Book>,
     floors: Vec<Floor>,
     residues: Vec<Residue>,
     mappings: Vec<Mapping>,
     modes: Vec<Mode>,
-    // the block flag of each mode
-    long_flags: Vec<bool>,
 }
 
-impl Model for Setup {
-    ghost use Rattle.std.specs.Prelude.{length};
+impl Model for Parts {
     ghost use Rattle.model_setup.specs.SetupPacket.{SetupFields};
-    ghost use Rattle.setup_header.specs.Setups.{AreModes};
 
     ghost Value = { SetupFields };
 
@@ -47,9 +50,27 @@ impl Model for Setup {
       mappings = a.mappings.items;
       modes = a.modes.items;
     } };
+}
 
-    ghost invariant = { λ a.
-        AreModes (length a.mappings.items) a.modes.items a.long_flags.items };
+/// The setup of a stream: the codebooks, floors, residues, mappings and modes by which its audio
+/// packets are decoded (Vorbis I, section 4.2.4).
+#[derive(Drop)]
+pub struct Setup {
+    parts: Parts,
+    // the block flag of each mode
+    long_flags: Vec<bool>,
+}
+
+impl Model for Setup {
+    ghost use Rattle.std.specs.Prelude.{length};
+    ghost use Rattle.model_setup.specs.SetupPacket.{SetupFields};
+    ghost use Rattle.setup_header.specs.Setups.{IsSetupOf};
+
+    ghost Value = { SetupFields };
+
+    ghost view = { λ a. a.parts };
+
+    ghost invariant = { λ a. IsSetupOf a.parts a.long_flags.items };
 }
 
 /// Reads the framing bit, which must be set.
@@ -71,12 +92,12 @@ fn long_flags(alloc: Global, modes: &[Mode]) -> Result<Vec<bool>, AllocError>
     modes.iter().map(|mode| mode.long).collect(alloc)
 }
 
-/// Reads the setup of a stream of so many channels.
+/// Reads the parts of a setup of a stream of so many channels.
 #[tactic(auto, unfolding(model_setup::specs::SetupPacket::setup_at))]
-fn read_setup(alloc: Global, bits: &mut Bits, channels: u8) -> Result<Setup, SetupFault>
+fn read_parts(alloc: Global, bits: &mut Bits, channels: u8) -> Result<Parts, SetupFault>
     requires some { 1 ≤ channels }
     requires few { channels ≤ 8 }
-    ensures read { Answers SetupFault.Memory (λ setup. (setup, bits.new.left)) result
+    ensures read { Answers SetupFault.Memory (λ parts. (parts, bits.new.left)) result
         (setup_at channels bits.old.left) }
     ensures whole { IfOk result (IsSetup channels) }
     ensures bytes { bits.new.total ≡ bits.old.total }
@@ -94,15 +115,42 @@ fn read_setup(alloc: Global, bits: &mut Bits, channels: u8) -> Result<Setup, Set
     let mappings = read_mappings(alloc, bits, bounds)?;
     let modes = read_modes(alloc, bits, mappings.len() as u32)?;
     read_framing(bits)?;
-    let long_flags = long_flags(alloc, &modes)?;
-    Ok(Setup {
+    Ok(Parts {
         books,
         floors,
         residues,
         mappings,
         modes,
-        long_flags,
     })
+}
+
+impl Parts {
+    /// Writes the parts of a setup.
+    fn write(&self, out: &mut BitsOut) -> Result<(), NoMemory>
+        requires few { All HasFewChannels self.now.mappings }
+        requires fits { HavePlaces (setup_fields self.now) }
+        ensures { OnOk result (ArePut out.old out.new (setup_fields self.now)) }
+    {
+        write_start(out)?;
+        write_books(out, &self.books)?;
+        write_time_transforms(out)?;
+        write_floors(out, &self.floors)?;
+        write_residues(out, &self.residues)?;
+        write_mappings(out, &self.mappings)?;
+        write_modes(out, &self.modes)?;
+        put_flag(out, true)
+    }
+}
+
+/// The bytes of a setup packet, which are read as this setup: the last byte is filled with 0.
+pub fn setup_bytes(alloc: Global, setup: &Setup) -> Result<Vec<u8>, NoMemory>
+    ensures written { IfOk result (λ v.
+        bits_of v.items ≡ filled (bits_of_fields (setup_fields setup.now))) }
+    ensures read { IfOk result (λ v. AreReadAs setup.now v.items) }
+{
+    let mut out = BitsOut::new(alloc);
+    setup.parts.write(&mut out)?;
+    Ok(out.done())
 }
 
 impl Setup {
@@ -116,28 +164,30 @@ impl Setup {
             (setup_of channels bytes.now) }
         ensures whole { IfOk result (IsSetup channels) }
     {
-        read_setup(alloc, &mut Bits::new(bytes), channels)
+        let parts = read_parts(alloc, &mut Bits::new(bytes), channels)?;
+        let long_flags = long_flags(alloc, &parts.modes)?;
+        Ok(Setup { parts, long_flags })
     }
 
     /// The codebooks.
     pub fn books(&self) -> &[Book]
         ensures { result.now ≡ self.now.books }
     {
-        &self.books
+        &self.parts.books
     }
 
     /// The floors.
     pub fn floors(&self) -> &[Floor]
         ensures { result.now ≡ self.now.floors }
     {
-        &self.floors
+        &self.parts.floors
     }
 
     /// The residues.
     pub fn residues(&self) -> &[Residue]
         ensures { result.now ≡ self.now.residues }
     {
-        &self.residues
+        &self.parts.residues
     }
 
     /// The block flag of each mode: whether its blocks are long.
@@ -152,7 +202,7 @@ impl Setup {
         requires { mode < length self.now.modes }
         ensures { mapping_of self.now mode ≡ Some result.now }
     {
-        let mode = &self.modes[usize::from(mode)];
-        &self.mappings[usize::from(mode.mapping)]
+        let mode = &self.parts.modes[usize::from(mode)];
+        &self.parts.mappings[usize::from(mode.mapping)]
     }
 }

@@ -1,10 +1,14 @@
-ghost use Rattle.std.specs.Prelude.{◌≡◌};
+ghost use Rattle.std.specs.Prelude.{◌≡◌, ◌∷◌, OnOk, codes};
+ghost use Rattle.std.specs.List.{flat_map};
 ghost use Rattle.model_bits.specs.Reading.{bits as bits_at, leaving, relabel};
 ghost use Rattle.model_setup.specs.HeaderPackets.{bytes_at, start_at};
 ghost use Rattle.model_setup.specs.SetupCauses.{start_fault};
+ghost use Rattle.model_writing.specs.SetupWriting.{in_bits};
+ghost use Rattle.field_writing.specs.Puts.{ArePut};
 
 use crate::faults::start_fault;
-use bit_reader::Bits;
+use bit_reader::{Bits, BitsOut, NoMemory};
+use field_writing::put_bytes;
 use model_setup::{SetupFault, StartCause};
 
 /// The bytes that a setup packet begins with: its type, 5, and the word that all header packets
@@ -40,4 +44,12 @@ pub fn read_start(bits: &mut Bits) -> Result<(), SetupFault>
     ensures bytes { bits.new.total ≡ bits.old.total }
 {
     read_bytes(bits, &START).map_err(start_fault)
+}
+
+/// Writes the start of a setup packet.
+pub fn write_start(out: &mut BitsOut) -> Result<(), NoMemory>
+    ensures { OnOk result
+        (ArePut out.old out.new (flat_map (in_bits 8) (5 ∷ codes "vorbis"))) }
+{
+    put_bytes(out, 8, &START)
 }

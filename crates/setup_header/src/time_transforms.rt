@@ -1,10 +1,13 @@
-ghost use Rattle.std.specs.Prelude.{◌≡◌, replicate};
+ghost use Rattle.std.specs.Prelude.{◌≡◌, ◌++◌, OnOk, replicate};
 ghost use Rattle.model_bits.specs.Reading.{leaving};
 ghost use Rattle.model_setup.specs.SetupPacket.{each_number, zero_at, times_at};
+ghost use Rattle.model_writing.specs.SetupWriting.{in_bits};
+ghost use Rattle.field_writing.specs.Puts.{ArePut};
 
 use crate::faults::bad;
 use crate::fields::{read_count, read_zero};
-use bit_reader::Bits;
+use bit_reader::{Bits, BitsOut, NoMemory};
+use field_writing::put_number;
 use model_setup::{SetupCause, SetupFault};
 
 /// Reads so many time domain transforms, each of which must be 0.
@@ -29,4 +32,12 @@ pub fn read_time_transforms(bits: &mut Bits) -> Result<u32, SetupFault>
     let count = read_count(bits, 6)?;
     read_each_time_transform(bits, count)?;
     Ok(count)
+}
+
+/// Writes one time domain transform.
+pub fn write_time_transforms(out: &mut BitsOut) -> Result<(), NoMemory>
+    ensures { OnOk result (ArePut out.old out.new (in_bits 6 0 ++ in_bits 16 0)) }
+{
+    put_number(out, 6, 0)?;
+    put_number(out, 16, 0)
 }

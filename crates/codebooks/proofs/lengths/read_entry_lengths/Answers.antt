@@ -1,7 +1,6 @@
 use Rattle.std.proofs.Common.{◌∙◌, length-append, arith}
 use Rattle.std.proofs.lemmas.Result.{err_from_is_err_and}
 use Rattle.std.proofs.lemmas.List.Elements.{All-push}
-use Rattle.model_bits.specs.Reading.{times}
 use Rattle.model_bits.proofs.Times.{times_goes_on, times_fails}
 use Rattle.model_setup.specs.BookReading.{entry_length_at}
 use Rattle.codebooks.specs.Free.{IsLengthIfUsed}

@@ -1,6 +1,5 @@
 use Rattle.std.proofs.Common.{◌∙◌, length-append, arith}
 use Rattle.std.proofs.lemmas.Result.{err_from_is_err_and}
-use Rattle.model_bits.specs.Reading.{times}
 use Rattle.model_bits.proofs.Times.{times_goes_on, times_fails}
 use Rattle.model_setup.specs.BookReading.{field}
 use Rattle.codebooks.proofs.lookup.read_multiplicands.Goals as goal

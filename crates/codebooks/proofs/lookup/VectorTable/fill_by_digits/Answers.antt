@@ -1,4 +1,4 @@
-use Rattle.std.proofs.Common.{◌≡◌, ◌-◌, map, ◌+ℤ◌, ◌/◌, ◌%◌, ◌*◌, ◌^◌, ◌<◌, pos, length, get_or, ap, sym, ◌∙◌, refl, arith, w64, to_z, of_z}
+use Rattle.std.proofs.Common.{◌≡◌, ◌-◌, map, ◌+ℤ◌, ◌/◌, ◌%◌, ◌*◌, ◌<◌, pos, length, get_or, ap, sym, ◌∙◌, refl, arith, w64, to_z, of_z}
 use Rattle.std.specs.Prelude.{FitsSigned}
 use Rattle.std.proofs.lemmas.Int.{to_z-of_z}
 use Rattle.std.proofs.lemmas.List.FromFn.{fill_by_all}

@@ -1,11 +1,10 @@
-use Rattle.std.proofs.Common.{◌≡◌, ◌-◌, map, ◌+ℤ◌, ◌+◌, ◌*◌, ◌<◌, pos, length, get_or, ap, sym, ◌∙◌, refl, arith, w64, to_z, of_z}
+use Rattle.std.proofs.Common.{◌≡◌, map, ◌+ℤ◌, ◌+◌, ◌*◌, ◌<◌, pos, length, get_or, ap, sym, ◌∙◌, refl, arith, w64, to_z, of_z}
 use Rattle.std.specs.Prelude.{FitsSigned}
 use Rattle.std.proofs.lemmas.Int.{to_z-of_z}
 use Rattle.std.proofs.lemmas.List.FromFn.{fill_by_all, take-map-range_with_len}
 use Rattle.model_setup.specs.Codebook.{Lookup}
 use Rattle.model_setup.specs.Vectors.{multiplicand_at, value_at, value_on, carried_on, vector_of}
 use Rattle.model_fixed.specs.Fixed.{limited}
-use Rattle.std.proofs.lemmas.Nat.{div-add-mod', mod_below}
 use Rattle.codebooks.specs.Units.{unit_of}
 use Rattle.codebooks.proofs.Units.{unit_read, unit_read_small, units_length}
 use Rattle.codebooks.proofs.Fills.{carried_to, carried_next, value_here, own_read, filled_more}

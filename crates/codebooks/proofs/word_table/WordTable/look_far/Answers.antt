@@ -1,5 +1,3 @@
-use Rattle.std.proofs.Common.{◌≡◌, sym, ◌∙◌}
-use Rattle.codebooks.specs.Looks.{Finds}
 use Rattle.codebooks.proofs.Looks.{high_number, unclaimed_none, claimed_some, claimed_short}
 use Rattle.codebooks.proofs.word_table.WordTable.look_far.Goals as goal
 

@@ -1,5 +1,4 @@
-use Rattle.std.proofs.Common.{◌≡◌, List, arith}
-use Rattle.model_setup.specs.declared.book.Word.{Word}
+use Rattle.std.proofs.Common.{arith}
 use Rattle.codebooks.proofs.Permuted.{walked_some, walked_none, read_none, read_end, read_bit}
 use Rattle.codebooks.proofs.word_table.WordTable.read_entry.Goals as goal
 

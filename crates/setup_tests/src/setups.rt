@@ -9,6 +9,7 @@ use std::process::Abort;
 
 mod films;
 mod rows;
+mod written;
 
 use films::{ONE_CHANNEL, SIX_CHANNELS, TWO_CHANNELS};
 use rows::{ACCEPTED, HEADED, REFUSED};
@@ -63,10 +64,10 @@ fn compare_mapping(rt: &impl Abort, mapping: &Mapping, row: &Accepted) {
     assert_eq!(rt; channels, usize::from(row.channels), "{}: mux", row.name);
 }
 
-/// Reads the packet, and compares what the setup holds.
-fn reads(rt: &impl Abort, alloc: Global, row: &Accepted) {
+/// Reads a packet for the channels of a row, and compares what the setup holds.
+fn read(rt: &impl Abort, alloc: Global, row: &Accepted, packet: &[u8]) -> Setup {
     assert!(rt; 1 <= row.channels && row.channels <= 8);
-    let setup = match Setup::read(alloc, row.channels, row.packet) {
+    let setup = match Setup::read(alloc, row.channels, packet) {
         Ok(setup) => setup,
         Err(fault) => panic!(rt; "{}: {fault}", row.name),
     };
@@ -81,19 +82,20 @@ fn reads(rt: &impl Abort, alloc: Global, row: &Accepted) {
         row.name
     );
     compare_mapping(rt, setup.mapping(0), row);
+    setup
 }
 
 #[test]
 fn reads_setups(rt: HostRuntime) {
     for row in &ACCEPTED {
-        reads(&rt, rt.alloc(), row);
+        read(&rt, rt.alloc(), row, row.packet);
     }
 }
 
 #[test]
 fn reads_films(rt: HostRuntime) {
     for row in [&ONE_CHANNEL, &TWO_CHANNELS, &SIX_CHANNELS] {
-        reads(&rt, rt.alloc(), row);
+        read(&rt, rt.alloc(), row, row.packet);
     }
 }
 
