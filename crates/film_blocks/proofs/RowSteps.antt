@@ -1,23 +1,30 @@
 -- The rows of entries, one at a time.
-use Rattle.std.proofs.Common.{◌≡◌, ℕ, ◌+◌, ◌<◌, ◌≤◌, Bool, List, [], ◌∷◌, ◌++◌, length, map, drop, get_or, Some, None, refl, sym, ap, ◌∙◌, append_assoc}
+use Rattle.std.proofs.Common.{◌≡◌, ℕ, ◌+◌, ◌<◌, ◌≤◌, Bool, List, [], ◌∷◌, ◌++◌, length, map, drop, get_or, Option, Some, None, refl, sym, ap, ◌∙◌, append_assoc}
 use Rattle.std.proofs.lemmas.List.{at_drop_more, drop_all, append-nil}
 use Rattle.ogg_packets.specs.declared.entry.Entry.{Entry}
 use Rattle.ogg_packets.specs.declared.entry.Entry.TheVariants.{Packet, Lost}
 use Rattle.ogg_packets.specs.Pieces.{joined}
 use Rattle.ogg_packets.specs.Entries.{item_of, items_of, mark_in, packet_in}
 use Rattle.model_setup.specs.AudioHead.{head_of}
+use Rattle.model_ogg.specs.declared.page.Mark.{Mark}
+use Rattle.model_line.specs.declared.row.RowKind.{RowKind}
 use Rattle.model_line.specs.declared.row.RowKind.TheVariants as kinds
 use Rattle.model_line.specs.declared.row.Row.{Row}
 use Rattle.model_line.specs.PacketRows.{kind_by_head, row_of}
 
--- the row of a packet, and of a loss
-pub row_of_packet : (bytes : List ℕ) (flags : List Bool) (e : Entry) (found : List ℕ) → Some found ≡ packet_in bytes e → record { kind = kind_by_head flags (head_of flags found); mark = mark_in e } ≡ row_of flags (item_of bytes e)
-row_of_packet bytes flags (Packet pieces mark) found is = let same : found ≡ joined bytes pieces = cc in rw same refl
-row_of_packet bytes flags Lost found is = absurd (cc)
+-- what a packet is, and a loss
+pub kind_of_packet : (bytes : List ℕ) (flags : List Bool) (e : Entry) (found : List ℕ) → Some found ≡ packet_in bytes e → kind_by_head flags (head_of flags found) ≡ (row_of flags (item_of bytes e)).kind
+kind_of_packet bytes flags (Packet pieces mark) found is = let same : found ≡ joined bytes pieces = cc in rw same refl
+kind_of_packet bytes flags Lost found is = absurd (cc)
 
-pub row_of_loss : (bytes : List ℕ) (flags : List Bool) (e : Entry) → None ≡ packet_in bytes e → record { kind = kinds.Lost; mark = None } ≡ row_of flags (item_of bytes e)
-row_of_loss bytes flags (Packet pieces mark) is = absurd (cc)
-row_of_loss bytes flags Lost is = refl
+pub kind_of_loss : (bytes : List ℕ) (flags : List Bool) (e : Entry) → None ≡ packet_in bytes e → kinds.Lost ≡ (row_of flags (item_of bytes e)).kind
+kind_of_loss bytes flags (Packet pieces mark) is = absurd (cc)
+kind_of_loss bytes flags Lost is = refl
+
+-- the row of an entry
+pub row_with_mark : (bytes : List ℕ) (flags : List Bool) (e : Entry) (kind : RowKind) (mark : Option Mark) → kind ≡ (row_of flags (item_of bytes e)).kind → mark ≡ mark_in e → record { kind = kind; mark = mark } ≡ row_of flags (item_of bytes e)
+row_with_mark bytes flags (Packet pieces own) kind mark kind-is mark-is = rw (kind-is, mark-is) refl
+row_with_mark bytes flags Lost kind mark kind-is mark-is = rw (kind-is, mark-is) refl
 
 abbrev pub rows_in_order : List ℕ → List Bool → List Entry → List Row
 rows_in_order bytes flags es = map (row_of flags) (items_of bytes es)

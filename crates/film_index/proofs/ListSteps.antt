@@ -90,15 +90,15 @@ listed_gap next xs now starts begun total gaps link kind old now-is begun-is =
       below = all_push (IsBelow next) xs x old.below tt;
     })
 
-pub listed_span : (xs now : List Item) (starts begun : List ℕ) (total gaps : ℕ) (s : Span) → AreListed s.block xs starts total gaps
+pub listed_span : (next : ℕ) (xs now : List Item) (starts begun : List ℕ) (total gaps : ℕ) (s : Span) → AreListed s.block xs starts total gaps → next ≡ s.block + 1
     → s.from < s.to → s.start ≡ total → now ≡ xs ++ variants.Span s ∷ [] → begun ≡ starts ++ total ∷ []
-    → AreListed (s.block + 1) now begun (total + (s.to - s.from)) gaps
-listed_span xs now starts begun total gaps s old some start now-is begun-is =
+    → AreListed next now begun (total + (s.to - s.from)) gaps
+listed_span next xs now starts begun total gaps s old next-is some start now-is begun-is =
     let x : Item = variants.Span s in
     let begins : s.start ≡ 0 + frame_count (listed xs) = omega (arith, start, old.total) in
     let frames : frame_count (origins_of x) ≡ s.to - s.from = frame_count-between s.link s.block s.from s.to in
     let none : gap_count (origins_of x) ≡ 0 = gap_count-frames s.link (map (origin s.block (s.block + 1)) (range_with_len s.from (s.to - s.from))) in
-    rw (now-is, begun-is) (record {
+    rw (next-is, now-is, begun-is) (record {
       starts = starts_push xs x starts total old.starts old.total;
       started = told_push 0 xs x old.started begins;
       total = omega (arith, old.total, count_push xs x, frames);

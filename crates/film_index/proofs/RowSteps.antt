@@ -16,21 +16,25 @@ use Rattle.model_line.proofs.Edges.{edge_passed}
 use Rattle.film_index.specs.Listings.{before}
 use Rattle.film_index.proofs.Marks.{no_row}
 
--- how many frames a block behind another gives
-pub block_count : (short long p size count : ℕ) (is_long : Bool) (kind : RowKind) (previous : Option ℕ) → kind ≡ Block is_long → previous ≡ Some p → size ≡ size_of short long is_long → count ≡ overlap_len p size
-    → length (frames_given frame_numbers (kind_of short long kind) previous) ≡ count
-block_count short long p size count is_long kind previous kind-is previous-is size-is count-is =
-    rw (kind-is, previous-is, count-is, size-is) (length-range_with_len 0 (overlap_len p (size_of short long is_long)))
+-- where an entry gives frames, a block has come before it
+pub some_before : (n count : ℕ) (kind : Kind ℕ) (previous : Option ℕ) → IfSome previous (λ _. 0 < n) → count ≡ length (frames_given frame_numbers kind previous) → 0 < count → 0 < n
+some_before n count (missing kind) previous some count-is lt = absurd (omega arith)
+some_before n count skipped previous some count-is lt = absurd (omega arith)
+some_before n count (decoded size) None some count-is lt = absurd (omega arith)
+some_before n count (decoded size) (Some p) some count-is lt = some
 
--- a block behind another
-pub block_row : (cuts : Cuts) (link short long n p size count first block : ℕ) (is_long : Bool) (old now : List (LineItem Origin)) → 0 < n → block ≡ n - 1 → size ≡ size_of short long is_long → count ≡ overlap_len p size
-    → now ≡ old ++ trimmed cuts first (map (frame link) (map (origin block (block + 1)) (range_with_len 0 count)))
-    → now ≡ old ++ trimmed cuts first (items_given link origins (kind_at n (kind_of short long (Block is_long))) (before n (Some p)))
-block_row cuts link short long n p size count first block is_long old now some block-is size-is count-is h =
-    let next : block + 1 ≡ n = omega arith in
-    let here = rw next at h in
-    let there = rw (block-is, count-is, size-is) at here in
-    there
+-- a block, behind another or not
+pub block_row : (cuts : Cuts) (link short long n count first : ℕ) (is_long : Bool) (kind : RowKind) (previous : Option ℕ) (old now : List (LineItem Origin)) → IfSome previous (λ _. 0 < n) → kind ≡ Block is_long
+    → count ≡ length (frames_given frame_numbers (kind_of short long kind) previous)
+    → now ≡ old ++ trimmed cuts first (map (frame link) (map (origin (n - 1) (n - 1 + 1)) (range_with_len 0 count)))
+    → now ≡ old ++ trimmed cuts first (items_given link origins (kind_at n (kind_of short long kind)) (before n previous))
+block_row cuts link short long n count first is_long kind None old now some kind-is count-is h =
+    let none : count ≡ 0 = rw kind-is at count-is in
+    rw kind-is (rw none at h)
+block_row cuts link short long n count first is_long kind (Some p) old now some kind-is count-is h =
+    let whole : count ≡ overlap_len p (size_of short long is_long) = (rw kind-is at count-is) ∙ length-range_with_len 0 (overlap_len p (size_of short long is_long)) in
+    let next : n - 1 + 1 ≡ n = omega arith in
+    rw kind-is (rw (next, whole) at h)
 
 -- ---- what an entry gives and what follows
 

@@ -6,7 +6,8 @@ use Rattle.model_line.specs.declared.item.Item.{Item}
 use Rattle.model_line.specs.declared.item.Item.TheVariants as variants
 use Rattle.model_line.specs.Decode.{frame_count, gap_count}
 use Rattle.model_line.specs.Origins.{NumberedBlock, starts_from, HaveStarts, listed, HasFrame, IsBefore}
-use Rattle.film_index.specs.declared.listing.Listing.{Listing}
+use Rattle.film_index.specs.declared.listing.Lists.{Lists}
+use Rattle.film_index.specs.declared.listing.Counts.{Counts}
 use Rattle.film_index.specs.Bounds.{most_overlap}
 
 -- a span's first block has a number below this one
@@ -26,17 +27,17 @@ pub record AreListed (next : ℕ) (xs : List Item) (begun : List ℕ) (frame_tot
   pub rising : AllPairs IsBefore xs
   pub below : All (IsBelow next) xs
 
-abbrev pub IsListing : ℕ → Listing → Type 0
-IsListing next l = AreListed next l.items.items l.starts.items l.total l.gaps
+abbrev pub IsListing : ℕ → Lists → Counts → Type 0
+IsListing next l counts = AreListed next l.items.items l.starts.items counts.total counts.gaps
 
 -- there is room for so many entries more
-pub record HasRoom (l : Listing) (rows : ℕ) : Type 0 where
-  pub total : l.total + most_overlap * rows ≤ most_overlap * MOST_ENTRIES
-  pub gaps : l.gaps + rows ≤ MOST_ENTRIES
-  pub blocks : l.blocks + rows ≤ MOST_ENTRIES
+pub record HasRoom (counts : Counts) (rows : ℕ) : Type 0 where
+  pub total : counts.total + most_overlap * rows ≤ most_overlap * MOST_ENTRIES
+  pub gaps : counts.gaps + rows ≤ MOST_ENTRIES
+  pub blocks : counts.blocks + rows ≤ MOST_ENTRIES
 
 -- so many entries were added at most
-pub record HasGrown (old new : Listing) (rows : ℕ) : Type 0 where
+pub record HasGrown (old new : Counts) (rows : ℕ) : Type 0 where
   pub total : new.total ≤ old.total + most_overlap * rows
   pub gaps : new.gaps ≤ old.gaps + rows
   pub blocks : new.blocks ≤ old.blocks + rows

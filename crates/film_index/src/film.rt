@@ -65,18 +65,22 @@ fn entry_count(links: &[LinkRows]) -> usize
 /// Adds the line of a link of this number, and gives its facts.
 fn add_link(listing: &mut Listing, number: u32, link: &LinkRows) -> Result<LinkFacts, NoMemory>
     requires sizes { FitsLink link.now }
-    requires right { IsListing (listing.old.blocks - 1) listing.old }
-    requires room { HasRoom listing.old (length link.now.rows) }
+    requires right { IsListing
+        (listing.old.counts.blocks - 1) listing.old.lists listing.old.counts }
+    requires room { HasRoom listing.old.counts (length link.now.rows) }
     ensures facts { IfOk result (λ facts. facts ≡ facts_of number link.now) }
-    ensures right { OnOk result (IsListing (listing.new.blocks - 1) listing.new) }
-    ensures listed { OnOk result (listed listing.new.items.items ≡ listed listing.old.items.items
-        ++ link_line number origins (numbered_entries listing.old.blocks (entries_of link.now))) }
-    ensures blocks { OnOk result
-        (listing.new.blocks ≡ number_behind listing.old.blocks (entries_of link.now)) }
-    ensures grown { OnOk result (HasGrown listing.old listing.new (length link.now.rows)) }
+    ensures right { OnOk result (IsListing
+        (listing.new.counts.blocks - 1) listing.new.lists listing.new.counts) }
+    ensures listed { OnOk result (listed listing.new.lists.items.items
+        ≡ listed listing.old.lists.items.items ++ link_line number origins
+        (numbered_entries listing.old.counts.blocks (entries_of link.now))) }
+    ensures blocks { OnOk result (listing.new.counts.blocks
+        ≡ number_behind listing.old.counts.blocks (entries_of link.now)) }
+    ensures grown { OnOk result
+        (HasGrown listing.old.counts listing.new.counts (length link.now.rows)) }
 {
-    let frames = listing.total;
-    let gaps = listing.gaps;
+    let frames = listing.counts.total;
+    let gaps = listing.counts.gaps;
     let sizes = Sizes {
         short: link.short,
         long: link.long,
@@ -87,8 +91,8 @@ fn add_link(listing: &mut Listing, number: u32, link: &LinkRows) -> Result<LinkF
         rate: link.rate,
         short: link.short,
         long: link.long,
-        frames: listing.total - frames,
-        gaps: listing.gaps - gaps,
+        frames: listing.counts.total - frames,
+        gaps: listing.counts.gaps - gaps,
     })
 }
 
@@ -99,15 +103,18 @@ fn add_links(
     links: &[LinkRows],
 ) -> Result<Vec<LinkFacts>, NoMemory>
     requires fits { FitsIndex links.now }
-    requires right { IsListing (listing.old.blocks - 1) listing.old }
-    requires room { HasRoom listing.old (rows_in links.now) }
+    requires right { IsListing
+        (listing.old.counts.blocks - 1) listing.old.lists listing.old.counts }
+    requires room { HasRoom listing.old.counts (rows_in links.now) }
     ensures facts { IfOk result (λ facts. facts.items ≡ facts_from 0 links.now) }
-    ensures right { OnOk result (IsListing (listing.new.blocks - 1) listing.new) }
-    ensures listed { OnOk result (listed listing.new.items.items ≡ listed listing.old.items.items
-        ++ line origins 0 (numbered_links listing.old.blocks (map entries_of links.now))) }
-    ensures blocks { OnOk result
-        (listing.new.blocks ≡ all_behind listing.old.blocks (map entries_of links.now)) }
-    ensures room { OnOk result (HasRoom listing.new 0) }
+    ensures right { OnOk result (IsListing
+        (listing.new.counts.blocks - 1) listing.new.lists listing.new.counts) }
+    ensures listed { OnOk result (listed listing.new.lists.items.items
+        ≡ listed listing.old.lists.items.items ++ line origins 0
+        (numbered_links listing.old.counts.blocks (map entries_of links.now))) }
+    ensures blocks { OnOk result (listing.new.counts.blocks
+        ≡ all_behind listing.old.counts.blocks (map entries_of links.now)) }
+    ensures room { OnOk result (HasRoom listing.new.counts 0) }
 {
     let mut facts = Vec::new(alloc);
     for (number, link) in links.iter().enumerate() {
@@ -127,11 +134,11 @@ impl Index {
         let mut listing = Listing::with_capacity(alloc, entry_count(&links))?;
         let facts = add_links(alloc, &mut listing, &links)?;
         Ok(Index {
-            items: listing.items,
-            starts: listing.starts,
-            total: listing.total,
+            items: listing.lists.items,
+            starts: listing.lists.starts,
+            total: listing.counts.total,
             links: facts,
-            blocks: listing.blocks,
+            blocks: listing.counts.blocks,
         })
     }
 

@@ -8,9 +8,9 @@ use Rattle.film_index.proofs.film.add_links.Given as goal
 
 abbrev pub invariant-loop-number : goal.invariant-loop-number
 invariant-loop-number l = record {
-  listed : listed l.listing.items.items ++ line origins l.number (numbered_links l.listing.blocks (map entries_of (drop l.number l.links))) ≡ listed l.fn.listing.items.items ++ line origins 0 (numbered_links l.fn.listing.blocks (map entries_of l.links));
+  listed : listed l.listing.lists.items.items ++ line origins l.number (numbered_links l.listing.counts.blocks (map entries_of (drop l.number l.links))) ≡ listed l.fn.listing.lists.items.items ++ line origins 0 (numbered_links l.fn.listing.counts.blocks (map entries_of l.links));
   facts : l.facts.items ++ facts_from l.number (drop l.number l.links) ≡ facts_from 0 l.links;
-  blocks : all_behind l.listing.blocks (map entries_of (drop l.number l.links)) ≡ all_behind l.fn.listing.blocks (map entries_of l.links);
-  right : IsListing (l.listing.blocks - 1) l.listing;
-  room : HasRoom l.listing (rows_in (drop l.number l.links));
+  blocks : all_behind l.listing.counts.blocks (map entries_of (drop l.number l.links)) ≡ all_behind l.fn.listing.counts.blocks (map entries_of l.links);
+  right : IsListing (l.listing.counts.blocks - 1) l.listing.lists l.listing.counts;
+  room : HasRoom l.listing.counts (rows_in (drop l.number l.links));
 }

@@ -13,9 +13,9 @@ pub loop-row-init : goal.loop-row-init
 unfolding link_line
 loop-row-init c =
     let entries = map (entry_of c.args.sizes.short c.args.sizes.long) c.args.rows.now in
-    let line = numbered_entries c.args.self.now.blocks entries in
+    let line = numbered_entries c.args.self.now.counts.blocks entries in
     record {
-      listed = rw (c.start-walk.ensures.frames, c.start-walk.ensures.previous, c.cuts-cuts.ensures.cuts) (ap (λ (k : Cuts). listed c.args.self.now.items.items ++ trimmed k 0 (linear_decode c.args.link origins None line)) (sym (origins_cuts c.args.self.now.blocks entries)));
+      listed = rw (c.start-walk.ensures.frames, c.start-walk.ensures.previous, c.cuts-cuts.ensures.cuts) (ap (λ (k : Cuts). listed c.args.self.now.lists.items.items ++ trimmed k 0 (linear_decode c.args.number origins None line)) (sym (origins_cuts c.args.self.now.counts.blocks entries)));
       blocks = refl;
       right = c.requires.right;
       grown = record { total = omega arith; gaps = omega arith; blocks = omega arith };
@@ -37,18 +37,18 @@ loop-row-preserved c =
     let old = c.loop-row.invariant in
     let added = c.in_ok-add_row.ensures in
     record {
-      listed = rows_step c.cuts-cuts.result c.args.link short long c.loop-row.self.blocks _ c.loop-row.walk.frames _ c.loop-row.walk.previous _ rows i _ _ _ c.loop-row-test.true added.listed added.blocks c.pass.ensures.frames c.pass.ensures.previous old.listed;
-      blocks = number_next short long c.loop-row.self.blocks _ rows i _ c.loop-row-test.true added.blocks old.blocks;
+      listed = rows_step c.cuts-cuts.result c.args.number short long c.loop-row.counts.blocks _ c.loop-row.walk.frames _ c.loop-row.walk.previous _ rows i _ _ _ c.loop-row-test.true added.listed added.blocks added.frames added.previous old.listed;
+      blocks = number_next short long c.loop-row.counts.blocks _ rows i _ c.loop-row-test.true added.blocks old.blocks;
       right = added.right;
       grown = record { total = omega (arith, added.grown); gaps = omega (arith, added.grown); blocks = omega (arith, added.grown) };
-      edge = edge_next short long c.loop-row.walk.frames _ c.cuts-cuts.result.end.to c.loop-row.walk.previous _ rows i c.loop-row-test.true c.pass.ensures.frames c.pass.ensures.previous old.edge;
-      fits = c.pass.ensures.fits;
-      some = rw (c.pass.ensures.previous, added.blocks) (some_after c.loop-row.self.blocks (kind_of short long (get_or rows i no_row).kind) c.loop-row.walk.previous old.some);
+      edge = edge_next short long c.loop-row.walk.frames _ c.cuts-cuts.result.end.to c.loop-row.walk.previous _ rows i c.loop-row-test.true added.frames added.previous old.edge;
+      fits = added.fits;
+      some = rw (added.previous, added.blocks) (some_after c.loop-row.counts.blocks (kind_of short long (get_or rows i no_row).kind) c.loop-row.walk.previous old.some);
       frames = omega arith;
     }
 
 pub returns-clause-listed : goal.returns-clause-listed
-returns-clause-listed c = rows_end c.cuts-cuts.result c.args.link c.args.sizes.short c.args.sizes.long c.loop-row.self.blocks c.loop-row.walk.frames c.loop-row.walk.previous c.args.rows.now c.loop-row.row-index _ _ c.loop-row-test.false c.loop-row.invariant.listed
+returns-clause-listed c = rows_end c.cuts-cuts.result c.args.number c.args.sizes.short c.args.sizes.long c.loop-row.counts.blocks c.loop-row.walk.frames c.loop-row.walk.previous c.args.rows.now c.loop-row.row-index _ _ c.loop-row-test.false c.loop-row.invariant.listed
 
 pub returns-clause-blocks : goal.returns-clause-blocks
-returns-clause-blocks c = number_end c.args.sizes.short c.args.sizes.long c.loop-row.self.blocks c.args.rows.now c.loop-row.row-index _ c.loop-row-test.false c.loop-row.invariant.blocks
+returns-clause-blocks c = number_end c.args.sizes.short c.args.sizes.long c.loop-row.counts.blocks c.args.rows.now c.loop-row.row-index _ c.loop-row-test.false c.loop-row.invariant.blocks

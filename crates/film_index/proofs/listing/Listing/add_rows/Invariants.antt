@@ -10,13 +10,13 @@ use Rattle.film_index.proofs.listing.Listing.add_rows.Given as goal
 
 abbrev pub invariant-loop-row : goal.invariant-loop-row
 invariant-loop-row l = record {
-  listed : listed l.self.items.items ++ trimmed l.cuts l.walk.frames (items_behind l.link l.sizes.short l.sizes.long l.self.blocks l.walk.previous (drop l.row-index l.rows))
-      ≡ listed l.fn.self.items.items ++ link_line l.link origins (numbered_entries l.fn.self.blocks (map (entry_of l.sizes.short l.sizes.long) l.rows));
-  blocks : number_behind l.self.blocks (map (entry_of l.sizes.short l.sizes.long) (drop l.row-index l.rows)) ≡ number_behind l.fn.self.blocks (map (entry_of l.sizes.short l.sizes.long) l.rows);
-  right : IsListing (l.self.blocks - 1) l.self;
-  grown : HasGrown l.fn.self l.self l.row-index;
-  edge : AtEdge frame_numbers l.cuts.end.to l.walk.frames l.walk.previous (map (entry_of l.sizes.short l.sizes.long) (drop l.row-index l.rows));
+  listed : listed l.self.lists.items.items ++ trimmed l.link.cuts l.walk.frames (items_behind l.number l.fn.sizes.short l.fn.sizes.long l.counts.blocks l.walk.previous (drop l.row-index l.rows))
+      ≡ listed l.fn.self.lists.items.items ++ link_line l.number origins (numbered_entries l.fn.self.counts.blocks (map (entry_of l.fn.sizes.short l.fn.sizes.long) l.rows));
+  blocks : number_behind l.counts.blocks (map (entry_of l.fn.sizes.short l.fn.sizes.long) (drop l.row-index l.rows)) ≡ number_behind l.fn.self.counts.blocks (map (entry_of l.fn.sizes.short l.fn.sizes.long) l.rows);
+  right : IsListing (l.counts.blocks - 1) l.self.lists l.counts;
+  grown : HasGrown l.fn.self.counts l.counts l.row-index;
+  edge : AtEdge frame_numbers l.link.cuts.end.to l.walk.frames l.walk.previous (map (entry_of l.fn.sizes.short l.fn.sizes.long) (drop l.row-index l.rows));
   fits : IfSome l.walk.previous FitsSize;
-  some : IfSome l.walk.previous (λ _. 0 < l.self.blocks);
+  some : IfSome l.walk.previous (λ _. 0 < l.counts.blocks);
   frames : l.walk.frames ≤ most_overlap * l.row-index;
 }
