@@ -100,6 +100,7 @@ impl Constants {
         ensures value { result ≡ self.now.scale }
         ensures most { result ≤ SCALE }
         ensures set { result ≡ SCALE }
+        ensures right { AreTables self.now }
     {
         self.scale
     }

@@ -1,7 +1,15 @@
+pub mod Slopes
+pub mod PatchSteps
+pub mod MixSteps
 pub mod Items
 pub mod PortionSteps
 pub mod FrameSteps
 pub mod Inside
 pub mod Needed
 pub mod ReadFrames
-pub mod Gives
+pub mod CursorRuns
+pub mod CursorStates
+pub mod FrameValues
+pub mod Planned
+pub mod SpanReads
+pub mod Spliced

@@ -1,7 +1,7 @@
 -- What a read gives, and where the cursor is then.
 use Rattle.std.proofs.Common.{◌≡◌, ℕ, zero, suc, ◌+◌, ◌-◌, ◌*◌, ◌/◌, ◌^◌, ◌≤◌, ◌<◌, min, Bool, true, false, nat_eq, nat_lt, ◌&&◌, cond, List, [], ◌∷◌, ◌++◌, length, map, take, drop, refl, ap, sym, ◌∙◌, arith, length-append, length-drop}
 use Rattle.std.specs.List.{All, range_with_len, flat_map}
-use Rattle.std.proofs.lemmas.List.{take-append-drop, drop-map, take-map, length-map, length-take, map-append}
+use Rattle.std.proofs.lemmas.List.{take-append-drop, length-take, map-append}
 use Rattle.std.proofs.lemmas.List.Elements.{All-head, All-tail, All-drop, All-cons, All-nil, All-append, All-map, All-weaker}
 use Rattle.std.proofs.lemmas.List.FromFn.{length-map-range_with_len}
 use Rattle.std.proofs.Math.Seq.{take-append_seam, drop-append_seam}
@@ -14,7 +14,7 @@ use Rattle.model_line.specs.declared.item.Item.{Item}
 use Rattle.model_line.specs.declared.item.Item.TheVariants as variants
 use Rattle.model_line.specs.declared.item.LinkFacts.{LinkFacts}
 use Rattle.model_line.specs.Decode.{LineItem, frame, gap, frame_count}
-use Rattle.model_line.specs.Origins.{Origin, origin, listed, HasFrame}
+use Rattle.model_line.specs.Origins.{origin, listed, HasFrame}
 use Rattle.model_line.specs.Blocks.{overlap_frame}
 use Rattle.model_line.specs.Index.{Indexed, IsWithin}
 use Rattle.film_index.specs.Items.{AreIndexItems}
@@ -23,16 +23,15 @@ use Rattle.model_cursor.specs.declared.reply.Reply.{Reply}
 use Rattle.model_cursor.specs.declared.reply.Reply.TheVariants as replies
 use Rattle.model_cursor.specs.FrameLists.{Frame, parts_of, frames_in, values_of}
 use Rattle.model_cursor.specs.Runs.{frames_of_link, run, run_at}
-use Rattle.model_cursor.specs.Cursors.{CursorState, next_frames, passed, read, place_after}
-use Rattle.model_cursor.specs.Laws.{frame_by}
+use Rattle.model_cursor.specs.Cursors.{CursorState, passed, read, place_after}
 use Rattle.model_cursor.specs.Plans.{span_needs, meets, item_needs, needs_between, read_needs}
 use Rattle.model_cursor.specs.Positions.{Position}
 use Rattle.model_cursor.specs.Sources.{Source, right_of, left_of, channels_in, SpanSuits, ItemSuits, Suits}
-use Rattle.model_cursor.proofs.ByOrigins.{frame_of, run-by}
+use Rattle.model_cursor.proofs.ByOrigins.{frame_of}
 use Rattle.model_cursor.proofs.Counting.{place_after-append}
 use Rattle.model_cursor.proofs.RunLaws.{run_within}
 use Rattle.cursor.specs.declared.portions.Portion.{Portion}
-use Rattle.cursor.specs.Portions.{cut, portions_on, portions_at, needs_of, HasNext, frames_from, FitsHalves, FitHalves}
+use Rattle.cursor.specs.Portions.{cut, portions_on, portions_at, needs_of, HasNext, HasChannels, frames_from, FitsHalves, FitHalves}
 use Rattle.cursor.proofs.Inside.{IsInside, portion_origins}
 
 -- ---- the frames of portions, by the halves that they need
@@ -134,35 +133,32 @@ needs_there index place count blocks right le = All-weaker (IsBelow index.blocks
 
 -- ---- each frame has a value per channel
 
-abbrev pub HasLength : ℕ → Frame → Type 0
-HasLength n f = length f ≡ n
+portion_channels : (source : Source) (n : ℕ) (p : Portion) → length (left_of source (p.block + 1)) ≡ n → All (HasChannels n) (map (frame_of source) (portion_origins p))
+portion_channels source n p e = rw (sym (portion_values source p.block (range_with_len p.from (p.to - p.from)))) (All-map (HasChannels n) (overlap_frame (right_of source p.block) (left_of source (p.block + 1))) (range_with_len p.from (p.to - p.from)) (λ k d lt. length-map-range_with_len _ 0 (length (left_of source (p.block + 1))) ∙ e))
 
-portion_channels : (source : Source) (n : ℕ) (p : Portion) → length (left_of source (p.block + 1)) ≡ n → All (HasLength n) (map (frame_of source) (portion_origins p))
-portion_channels source n p e = rw (sym (portion_values source p.block (range_with_len p.from (p.to - p.from)))) (All-map (HasLength n) (overlap_frame (right_of source p.block) (left_of source (p.block + 1))) (range_with_len p.from (p.to - p.from)) (λ k d lt. length-map-range_with_len _ 0 (length (left_of source (p.block + 1))) ∙ e))
-
-frames_cons : (source : Source) (n : ℕ) (p : Portion) (ps : List Portion) → length (left_of source (p.block + 1)) ≡ n → All (HasLength n) (frames_at source ps) → All (HasLength n) (frames_at source (p ∷ ps))
-frames_cons source n p ps e rest = rw (map-append (frame_of source) (portion_origins p) (flat_map portion_origins ps)) (All-append (HasLength n) (map (frame_of source) (portion_origins p)) (frames_at source ps) (portion_channels source n p e) rest)
+frames_cons : (source : Source) (n : ℕ) (p : Portion) (ps : List Portion) → length (left_of source (p.block + 1)) ≡ n → All (HasChannels n) (frames_at source ps) → All (HasChannels n) (frames_at source (p ∷ ps))
+frames_cons source n p ps e rest = rw (map-append (frame_of source) (portion_origins p) (flat_map portion_origins ps)) (All-append (HasChannels n) (map (frame_of source) (portion_origins p)) (frames_at source ps) (portion_channels source n p e) rest)
 
 and_left : (b c : Bool) → (b && c) ≡ true → b ≡ true
 and_left true c h = refl
 and_left false c h = h
 
-span_channels : (links : List LinkFacts) (source : Source) (link left : ℕ) (s : Span) (rest : List Portion) → SpanSuits links source s → All (HasLength (channels_in links link)) (frames_at source rest) → (b : Bool) → (nat_eq s.link link && nat_lt 0 left) ≡ b
-    → All (HasLength (channels_in links link)) (frames_at source (cond b (cut 0 left s ∷ rest) []))
+span_channels : (links : List LinkFacts) (source : Source) (link left : ℕ) (s : Span) (rest : List Portion) → SpanSuits links source s → All (HasChannels (channels_in links link)) (frames_at source rest) → (b : Bool) → (nat_eq s.link link && nat_lt 0 left) ≡ b
+    → All (HasChannels (channels_in links link)) (frames_at source (cond b (cut 0 left s ∷ rest) []))
 span_channels links source link left s rest suits more true e =
     let same : s.link ≡ link = eqb-true s.link link (and_left (nat_eq s.link link) (nat_lt 0 left) e) in
     frames_cons source (channels_in links link) (cut 0 left s) rest (suits.left.count ∙ ap (λ (k : ℕ). channels_in links k) same) more
-span_channels links source link left s rest suits more false e = All-nil (HasLength (channels_in links link))
+span_channels links source link left s rest suits more false e = All-nil (HasChannels (channels_in links link))
 
-channels_on : (links : List LinkFacts) (source : Source) (link left : ℕ) (xs : List Item) → All (ItemSuits links source) xs → All (HasLength (channels_in links link)) (frames_at source (portions_on link left xs))
+channels_on : (links : List LinkFacts) (source : Source) (link left : ℕ) (xs : List Item) → All (ItemSuits links source) xs → All (HasChannels (channels_in links link)) (frames_at source (portions_on link left xs))
 unfolding portions_on
-channels_on links source link left [] suit = All-nil (HasLength (channels_in links link))
-channels_on links source link left (variants.Gap other kind ∷ xs) suit = All-nil (HasLength (channels_in links link))
+channels_on links source link left [] suit = All-nil (HasChannels (channels_in links link))
+channels_on links source link left (variants.Gap other kind ∷ xs) suit = All-nil (HasChannels (channels_in links link))
 channels_on links source link left (variants.Span s ∷ xs) suit =
     span_channels links source link left s (portions_on link (left - (s.to - s.from)) xs) (All-head (ItemSuits links source) (variants.Span s) xs suit)
     (channels_on links source link (left - (s.to - s.from)) xs (All-tail (ItemSuits links source) (variants.Span s) xs suit)) (nat_eq s.link link && nat_lt 0 left) refl
 
-pub channels_at : (index : Indexed) (p : Position) (s : Span) (count : ℕ) (source : Source) → IsInside index.items p s → Suits index source → All (HasLength (channels_in index.links s.link)) (frames_at source (portions_at index.items p s count))
+pub channels_at : (index : Indexed) (p : Position) (s : Span) (count : ℕ) (source : Source) → IsInside index.items p s → Suits index source → All (HasChannels (channels_in index.links s.link)) (frames_at source (portions_at index.items p s count))
 channels_at index p s count source is suits =
     let here : SpanSuits index.links source s = at_item (ItemSuits index.links source) index.items p s is suits in
     let skip : ℕ = p.told - s.start in
@@ -171,26 +167,26 @@ channels_at index p s count source is suits =
 
 -- ---- frames by their values
 
-pub length_values : (n : ℕ) (fs : List Frame) → All (HasLength n) fs → length (values_of fs) ≡ length fs * n
+pub length_values : (n : ℕ) (fs : List Frame) → All (HasChannels n) fs → length (values_of fs) ≡ length fs * n
 length_values n [] all = omega arith
 length_values n (f ∷ fs) all =
-    let here : length f ≡ n = All-head (HasLength n) f fs all in
-    let rest = length_values n fs (All-tail (HasLength n) f fs all) in
+    let here : length f ≡ n = All-head (HasChannels n) f fs all in
+    let rest = length_values n fs (All-tail (HasChannels n) f fs all) in
     omega (arith, length-append f (values_of fs))
 
-parts_are : (n : ℕ) (fs : List Frame) → All (HasLength n) fs → parts_of (length fs) n (values_of fs) ≡ fs
+parts_are : (n : ℕ) (fs : List Frame) → All (HasChannels n) fs → parts_of (length fs) n (values_of fs) ≡ fs
 unfolding parts_of
 parts_are n [] all = refl
 parts_are n (f ∷ fs) all =
-    let here : length f ≡ n = All-head (HasLength n) f fs all in
+    let here : length f ≡ n = All-head (HasChannels n) f fs all in
     let first : take n (f ++ values_of fs) ≡ f = ap (λ (k : ℕ). take k (f ++ values_of fs)) (sym here) ∙ take-append_seam f (values_of fs) in
     let rest : drop n (f ++ values_of fs) ≡ values_of fs = ap (λ (k : ℕ). drop k (f ++ values_of fs)) (sym here) ∙ drop-append_seam f (values_of fs) in
-    rw (first, rest) (ap (λ (gs : List Frame). f ∷ gs) (parts_are n fs (All-tail (HasLength n) f fs all)))
+    rw (first, rest) (ap (λ (gs : List Frame). f ∷ gs) (parts_are n fs (All-tail (HasChannels n) f fs all)))
 
-pub count_of : (n : ℕ) (fs : List Frame) → 0 < n → All (HasLength n) fs → length (values_of fs) / n ≡ length fs
+pub count_of : (n : ℕ) (fs : List Frame) → 0 < n → All (HasChannels n) fs → length (values_of fs) / n ≡ length fs
 count_of n fs some all = let e : length (values_of fs) ≡ n * length fs = omega (arith, length_values n fs all) in ap (λ (k : ℕ). k / n) e ∙ mul-div_cancel_left (length fs) some
 
-pub frames_back : (n : ℕ) (fs : List Frame) → 0 < n → All (HasLength n) fs → frames_in n (values_of fs) ≡ fs
+pub frames_back : (n : ℕ) (fs : List Frame) → 0 < n → All (HasChannels n) fs → frames_in n (values_of fs) ≡ fs
 frames_back n fs some all = ap (λ (k : ℕ). parts_of k n (values_of fs)) (count_of n fs some all) ∙ parts_are n fs all
 
 -- ---- places behind frames of a run
@@ -241,11 +237,6 @@ run_counted (gap link kind ∷ xs) = omega arith
 
 -- ---- reads
 
-read_frames : (line : List (LineItem Frame)) (st : CursorState) (count link : ℕ) (f : Frame) (xs : List (LineItem Frame)) → st.patch ≡ [] → drop st.place line ≡ frame link f ∷ xs
-    → read line count st ≡ (replies.Frames link (take count (run_at line st.place)), passed (length (take count (run_at line st.place))) st)
-unfolding read next_frames
-read_frames line st count link f xs patch e = rw (patch, e) refl
-
 pub read_gap : (line : List (LineItem Frame)) (st : CursorState) (count link : ℕ) (kind : GapKind) (xs : List (LineItem Frame)) → drop st.place line ≡ gap link kind ∷ xs → read line count st ≡ (replies.Gap kind, passed 1 st)
 unfolding read
 read_gap line st count link kind xs e = rw e refl
@@ -256,14 +247,3 @@ read_end line st count e = rw e refl
 
 abbrev pub answered : Reply → CursorState → Reply × CursorState
 answered reply st = (reply, st)
-
-pub read_origins : (v : Origin → Frame) (line : List (LineItem Origin)) (st : CursorState) (count link : ℕ) (os : List Origin) (rest : List (LineItem Origin)) → st.patch ≡ [] → drop st.place line ≡ map (frame link) os ++ rest → 0 < length os
-    → read (map (frame_by v) line) count st ≡ (replies.Frames link (map v (take count (run_at line st.place))), passed (length (take count (run_at line st.place))) st)
-read_origins v line st count link [] rest patch e some = absurd (omega arith)
-read_origins v line st count link (o ∷ os) rest patch e some =
-    let behind : drop st.place (map (frame_by v) line) ≡ frame link (v o) ∷ map (frame_by v) (map (frame link) os ++ rest) = drop-map (frame_by v) st.place line ∙ ap (λ (xs : List (LineItem Origin)). map (frame_by v) xs) e in
-    let runs : run_at (map (frame_by v) line) st.place ≡ map v (run_at line st.place) = ap (λ (xs : List (LineItem Frame)). run xs) (drop-map (frame_by v) st.place line) ∙ run-by v (drop st.place line) in
-    let given : take count (run_at (map (frame_by v) line) st.place) ≡ map v (take count (run_at line st.place)) = ap (λ (fs : List Frame). take count fs) runs ∙ take-map v count (run_at line st.place) in
-    read_frames (map (frame_by v) line) st count link (v o) (map (frame_by v) (map (frame link) os ++ rest)) patch behind
-    ∙ ap (λ (fs : List Frame). answered (replies.Frames link fs) (passed (length fs) st)) given
-    ∙ ap (λ (n : ℕ). answered (replies.Frames link (map v (take count (run_at line st.place)))) (passed n st)) (length-map (take count (run_at line st.place)) v)

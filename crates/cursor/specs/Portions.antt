@@ -1,6 +1,6 @@
 -- The portions of spans whose frames a read gives.
-use Rattle.std.specs.Prelude.{ℕ, ◌+◌, ◌-◌, ◌*◌, ◌^◌, ◌<◌, ◌≤◌, min, ◌&&◌, ◌==◌, nat_lt, if◌then◌else◌, List, [], ◌∷◌, ◌++◌, length, map, drop}
-use Rattle.std.specs.List.{flat_map, range_with_len}
+use Rattle.std.specs.Prelude.{ℕ, ◌+◌, ◌-◌, ◌*◌, ◌^◌, ◌<◌, ◌≤◌, min, ◌&&◌, ◌==◌, nat_lt, if◌then◌else◌, List, [], ◌∷◌, ◌++◌, length, map, drop, ◌≡◌, Option, Some, None}
+use Rattle.std.specs.List.{flat_map, range_with_len, slice_get}
 use Rattle.model_line.specs.declared.item.Half.TheVariants as halves
 use Rattle.model_line.specs.declared.item.Span.{Span}
 use Rattle.model_line.specs.declared.item.Item.{Item}
@@ -39,6 +39,23 @@ portions_from skip count s xs =
 abbrev pub portions_at : List Item → Position → Span → ℕ → List Portion
 portions_at items p s count = portions_from (p.told - s.start) count s (drop (p.item + 1) items)
 
+-- a gap is there
+abbrev pub IsGap : Option Item → Type 0
+IsGap None = ⊥
+IsGap (Some (variants.Gap link kind)) = Unit {0}
+IsGap (Some (variants.Span s)) = ⊥
+
+-- the same, where this item is there: at a gap and at the end there are none
+abbrev pub portions_here : Option Item → List Item → Position → ℕ → List Portion
+portions_here None items p count = []
+portions_here (Some (variants.Gap link kind)) items p count = []
+portions_here (Some (variants.Span s)) items p count =
+    if nat_lt 0 count then portions_at items p s count else []
+
+-- the portions that give so many frames from a position on, as far as the run there goes
+abbrev pub run_portions : List Item → Position → ℕ → List Portion
+run_portions items p count = portions_here (slice_get items p.item) items p count
+
 -- ---- what they need, and what they give
 
 abbrev pub portion_needs : Portion → List Need
@@ -57,6 +74,10 @@ HasNext p = p.block + 1 < 2 ^ 32
 -- the frames of a portion, between these halves
 abbrev pub portion_frames : Values → Values → Portion → List Frame
 portion_frames right left p = map (overlap_frame right left) (range_with_len p.from (p.to - p.from))
+
+-- a frame has a value for each of so many channels
+abbrev pub HasChannels : ℕ → Frame → Type 0
+HasChannels channels f = length f ≡ channels
 
 -- the frames of portions, each between the next two halves
 unfoldable pub frames_from : List Portion → List Values → List Frame

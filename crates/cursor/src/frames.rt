@@ -1,12 +1,14 @@
-ghost use Rattle.std.specs.Prelude.{◌≡◌, ◌+◌, ◌*◌, ◌<◌, ◌≤◌, ◌++◌, ℕ, length, IfOk, OnOk};
+ghost use Rattle.std.specs.Prelude.{◌≡◌, ◌+◌, ◌*◌, ◌<◌, ◌≤◌, ◌++◌, ℕ, length, drop, IfOk, OnOk};
+ghost use Rattle.std.specs.List.{All};
 ghost use Rattle.model_line.specs.Origins.{overlap_len};
 ghost use Rattle.model_line.specs.Blocks.{len_of, overlap_frame};
 ghost use Rattle.model_cursor.specs.FrameLists.{values_of};
 ghost use Rattle.model_cursor.specs.Sources.{IsHalfBlock};
-ghost use Rattle.cursor.specs.Portions.{portion_frames, frames_from, FitsHalves, FitHalves};
+ghost use Rattle.cursor.specs.Portions.{portion_frames, frames_from, FitsHalves, FitHalves, HasChannels};
 
 use crate::portions::Portion;
 use lap_window::{HalfBlock, overlap};
+use model_cursor::Frames;
 use sequence::{NoMemory, Sequence};
 use std::alloc::Global;
 
@@ -66,4 +68,27 @@ pub fn frames_of(
         push_frames(right, left, *portion, &mut values)?;
     }
     Ok(values)
+}
+
+/// The halves behind those of so many portions.
+pub fn halves_behind(halves: &[HalfBlock], portions: usize) -> &[HalfBlock]
+    requires { 2 * portions ≤ length halves.now }
+    ensures { result.now ≡ drop (2 * portions) halves.now }
+{
+    &halves[2 * portions..]
+}
+
+/// The frames of portions, of so many channels, each portion between the next two halves.
+pub fn run_frames(
+    alloc: Global,
+    channels: u8,
+    portions: &[Portion],
+    halves: &[HalfBlock],
+) -> Result<Frames, NoMemory>
+    requires fit { FitHalves portions.now halves.now }
+    requires some { 0 < channels }
+    requires each { All (HasChannels channels) (frames_from portions.now halves.now) }
+    ensures { IfOk result (λ frames. frames ≡ frames_from portions.now halves.now) }
+{
+    Ok(Frames::of(channels, frames_of(alloc, portions, halves)?))
 }

@@ -1,9 +1,11 @@
-ghost use Rattle.std.specs.Prelude.{◌≡◌, ◌+◌, ◌^◌, ◌<◌, ◌≤◌, length, slice_index_or, MatchOption};
+ghost use Rattle.std.specs.Prelude.{◌≡◌, ◌+◌, ◌^◌, ◌<◌, ◌≤◌, List, length, slice_index_or, MatchOption};
 ghost use Rattle.std.specs.List.Sorted.{IsNonDecreasing};
 ghost use Rattle.granule_seek.specs.Places.{IsLastAtMost, AreAllAbove};
 ghost use Rattle.model_line.specs.Decode.{frame_count};
 ghost use Rattle.model_line.specs.Origins.{listed};
-ghost use Rattle.model_cursor.specs.Positions.{start_of};
+ghost use Rattle.model_cursor.specs.FrameLists.{Frame};
+ghost use Rattle.model_cursor.specs.Cursors.{place_after};
+ghost use Rattle.model_cursor.specs.Positions.{start_of, gaps_before, IsPosition};
 
 use film_index::Index;
 use granule_seek::{SliceStarts, last_at_most};
@@ -31,7 +33,7 @@ fn start_at(starts: &[u64], total: u64, item: usize) -> u64
 }
 
 /// How many frames are before the end of an item.
-pub fn end_of(index: &Index, item: usize) -> u64
+fn end_of(index: &Index, item: usize) -> u64
     requires { item < length index.now.items }
     ensures frames { result ≡ start_of index.now.items (item + 1) }
     ensures fits { item + 1 < 2 ^ 64 }
@@ -40,7 +42,7 @@ pub fn end_of(index: &Index, item: usize) -> u64
 }
 
 /// The number of the item of the frame of this number.
-pub fn item_of(index: &Index, frame: u64) -> usize
+fn item_of(index: &Index, frame: u64) -> usize
     requires { frame < frame_count (listed index.now.items) }
     ensures within { result < length index.now.items }
     ensures from { start_of index.now.items result ≤ frame }
@@ -49,5 +51,25 @@ pub fn item_of(index: &Index, frame: u64) -> usize
     match last_start::<Brand>(Blank::new(1), index.starts(), frame) {
         Some(item) => item,
         None => unreachable!(),
+    }
+}
+
+/// The number of the item of a cursor that stands behind so many frames, and before the gaps that
+/// follow them.
+pub fn item_behind(index: &Index, frames: u64) -> usize
+    requires { frames ≤ frame_count (listed index.now.items) }
+    ensures place { frames + gaps_before index.now.items result
+        ≡ place_after frames (listed index.now.items) }
+    ensures position { (patch : List Frame) → IsPosition index.now.items
+        (record { item = result; told = frames; patch = patch }) }
+{
+    if frames == 0 {
+        return 0;
+    }
+    let item = item_of(index, frames - 1);
+    if frames == end_of(index, item) {
+        item + 1
+    } else {
+        item
     }
 }

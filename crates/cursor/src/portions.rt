@@ -54,26 +54,24 @@ fn add_portions(
     Ok(())
 }
 
-/// The portions that give so many frames from a span on, without its first ones, and on into the
-/// items behind it.
-pub fn portions(
-    alloc: Global,
+/// Adds the portions that give so many frames from a span on, without its first ones, and on into
+/// the items behind it.
+pub fn add_run(
     first: &Span,
     behind: &[Item],
     skip: u32,
     count: u32,
-) -> Result<Vec<Portion>, NoMemory>
+    portions: &mut Vec<Portion>,
+) -> Result<(), NoMemory>
     requires skip { first.now.from + skip ≤ first.now.to }
     requires frames { All HasFrame behind.now }
-    ensures { IfOk result
-        (λ portions. portions.items ≡ portions_from skip count first.now behind.now) }
+    ensures { OnOk result (portions.new.items
+        ≡ portions.old.items ++ portions_from skip count first.now behind.now) }
 {
-    let mut portions = Vec::new(alloc);
     let portion = cut(first, skip, count);
     portions.push(portion)?;
     let left = count.saturating_sub(first.to - portion.from);
-    add_portions(behind, first.link, left, &mut portions)?;
-    Ok(portions)
+    add_portions(behind, first.link, left, portions)
 }
 
 /// What portions need, in order: the right half of each one's block, and the left half of the

@@ -5,6 +5,7 @@ ghost use Rattle.model_cursor.specs.declared.need.Need.{Need};
 ghost use Rattle.model_cursor.specs.Sources.{Suits, ItemSuits};
 
 use super::*;
+use crate::blocks::fetch_all;
 use constants_file::Constants;
 use film_index::{GapKind, Half, Index, Item, LinkRows, Row, RowKind};
 use model_synthesis::CONSTANTS_WORD;
@@ -199,7 +200,7 @@ fn read_at<L: Ledger>(
     requires frames { 0 < frames }
 {
     let index = index_of(alloc, film)?;
-    let constants = constants(alloc)?;
+    let constants = constants(alloc, 0)?;
     let mut blocks = Numbered::<L> {
         count: index.blocks(),
         steps: Steps::new(blank),
@@ -214,11 +215,11 @@ fn read_at<L: Ledger>(
     Ok((answer_of(&reply), cursor.tell(), blocks.needs))
 }
 
-/// Constants of which all numbers are 0.
-fn constants(alloc: Global) -> Result<Constants, Fail> {
+/// Constants of which all numbers are this one.
+fn constants(alloc: Global, number: u32) -> Result<Constants, Fail> {
     let mut bytes = CONSTANTS_WORD.to_vec(alloc)?;
     for _ in 0..16608 {
-        bytes.extend_from_slice(&[0; 4])?;
+        bytes.extend_from_slice(&number.to_le_bytes())?;
     }
     Ok(Constants::read(alloc, &bytes)?)
 }
@@ -348,5 +349,178 @@ fn reads_from_anywhere(rt: HostRuntime) -> Result<(), Fail> {
         [right, left].as_slice(),
         "the halves of one frame"
     );
+    Ok(())
+}
+
+/// Slopes of this number, one half, give the new side a quarter of each mixed value.
+const HALF: u32 = 1 << 22;
+
+/// Of the frames that a read gives: how many values, the first, the fifth, and the last.
+type Given = (usize, Option<i64>, Option<i64>, Option<i64>);
+
+/// What a reply gives.
+fn given(reply: &Reply) -> Given {
+    match reply {
+        Reply::Frames { frames, .. } => {
+            let values = frames.items();
+            (
+                values.len(),
+                values.first().copied(),
+                values.get(4).copied(),
+                values.last().copied(),
+            )
+        }
+        _ => (0, None, None, None),
+    }
+}
+
+/// What a lap from one place of a film to another answers, what the cursor reads then, and how many
+/// halves the lap fetched.
+fn lap<L: Ledger>(
+    alloc: Global,
+    blank: Blank,
+    film: Film,
+    from: u64,
+    to: u64,
+) -> Result<(Sought, Given, usize), Fail>
+    requires name { blank.name ≡ L.name }
+    requires parts { blank.parts ≡ L.parts }
+    requires some { 0 < blank.parts }
+{
+    let index = index_of(alloc, film)?;
+    let constants = constants(alloc, HALF)?;
+    let mut blocks = Numbered::<L> {
+        count: index.blocks(),
+        steps: Steps::new(blank),
+        needs: Vec::new(alloc),
+    };
+    let mut cursor = Cursor::start();
+    let _sought = cursor.seek(&index, from);
+    if !suits(&index) {
+        return Err(Fail::from("a span of other blocks"));
+    }
+    let sought = cursor.seek_lap(alloc, &index, &constants, &mut blocks, to)?;
+    let fetched = blocks.needs.len();
+    let reply = cursor.read(alloc, &index, &constants, &mut blocks, 65536)?;
+    Ok((sought, given(&reply), fetched))
+}
+
+/// What a row shows, a film, the place that a cursor laps from and the one that it laps to, what
+/// the lap answers, what is read then, and how many halves the lap fetched.
+type Lap = (&'static str, Film, u64, u64, Sought, Given, usize);
+
+const LAPS: [Lap; 4] = [
+    (
+        "over a border of blocks",
+        Film::Whole,
+        0,
+        60,
+        Sought::At { place: 60 },
+        (36, Some(1), Some(2), Some(5)),
+        6,
+    ),
+    (
+        "from the end, which is silent",
+        Film::Whole,
+        96,
+        60,
+        Sought::At { place: 60 },
+        (36, Some(0), Some(1), Some(5)),
+        4,
+    ),
+    (
+        "before a gap",
+        Film::Lossy,
+        0,
+        32,
+        Sought::At { place: 32 },
+        (0, None, None, None),
+        0,
+    ),
+    (
+        "past the end",
+        Film::Whole,
+        0,
+        97,
+        Sought::Invalid { total: 96 },
+        (96, Some(1), Some(1), Some(5)),
+        0,
+    ),
+];
+
+#[test]
+fn laps(rt: HostRuntime) -> Result<(), Fail> {
+    for (name, film, from, to, sought, read, fetched) in LAPS {
+        let answer = lap::<Brand>(rt.alloc(), Blank::new(1), film, from, to)?;
+        assert_eq!(rt; answer, (sought, read, fetched), "{name}");
+    }
+    Ok(())
+}
+
+/// What a new cursor at one place reads after a cross from an old one at another, and what the old
+/// one tells.
+fn cross<L: Ledger>(alloc: Global, blank: Blank, from: u64, to: u64) -> Result<(Given, u64), Fail>
+    requires name { blank.name ≡ L.name }
+    requires parts { blank.parts ≡ L.parts }
+    requires some { 0 < blank.parts }
+{
+    let index = index_of(alloc, Film::Whole)?;
+    let constants = constants(alloc, HALF)?;
+    let mut blocks = Numbered::<L> {
+        count: index.blocks(),
+        steps: Steps::new(blank),
+        needs: Vec::new(alloc),
+    };
+    let mut old = Cursor::start();
+    let _from = old.seek(&index, from);
+    let mut new = Cursor::start();
+    let _to = new.seek(&index, to);
+    if !suits(&index) {
+        return Err(Fail::from("a span of other blocks"));
+    }
+    old.crosslap(alloc, &index, &constants, &mut blocks, &mut new)?;
+    let reply = new.read(alloc, &index, &constants, &mut blocks, 65536)?;
+    Ok((given(&reply), old.tell()))
+}
+
+/// The same by the plan of the cross, and how many halves it needs.
+fn cross_by_plan<L: Ledger>(
+    alloc: Global,
+    blank: Blank,
+    from: u64,
+    to: u64,
+) -> Result<(Given, usize), Fail>
+    requires name { blank.name ≡ L.name }
+    requires parts { blank.parts ≡ L.parts }
+    requires some { 0 < blank.parts }
+{
+    let index = index_of(alloc, Film::Whole)?;
+    let constants = constants(alloc, HALF)?;
+    let mut blocks = Numbered::<L> {
+        count: index.blocks(),
+        steps: Steps::new(blank),
+        needs: Vec::new(alloc),
+    };
+    let mut old = Cursor::start();
+    let _from = old.seek(&index, from);
+    let mut new = Cursor::start();
+    let _to = new.seek(&index, to);
+    if !suits(&index) {
+        return Err(Fail::from("a span of other blocks"));
+    }
+    let needs = old.plan_cross(alloc, &index, &new)?;
+    let halves = fetch_all(alloc, &mut blocks, needs.items())?;
+    old.finish_cross(alloc, &index, &constants, &mut new, &halves)?;
+    let reply = new.read(alloc, &index, &constants, &mut blocks, 65536)?;
+    Ok((given(&reply), needs.items().len()))
+}
+
+#[test]
+fn crosses(rt: HostRuntime) -> Result<(), Fail> {
+    let read = (36, Some(1), Some(2), Some(5));
+    let at_once = cross::<Brand>(rt.alloc(), Blank::new(1), 0, 60)?;
+    assert_eq!(rt; at_once, (read, 0), "the old cursor stays");
+    let by_plan = cross_by_plan::<Brand>(rt.alloc(), Blank::new(1), 0, 60)?;
+    assert_eq!(rt; by_plan, (read, 6), "by its plan");
     Ok(())
 }

@@ -6,6 +6,7 @@ use Rattle.model_line.specs.declared.item.Item.TheVariants as variants
 use Rattle.model_line.specs.declared.row.GapKind.TheVariants as kinds
 use Rattle.model_line.specs.Decode.{LineItem, frame, gap, frame_count}
 use Rattle.model_line.specs.Origins.{listed}
+use Rattle.model_line.specs.Index.{Indexed}
 use Rattle.model_cursor.specs.declared.need.Need.{Need}
 use Rattle.model_cursor.specs.declared.need.Task.TheVariants.{Read}
 use Rattle.model_cursor.specs.declared.reply.Reply.TheVariants as replies
@@ -102,35 +103,38 @@ span link block from_start = variants.Span (record { link = link; block = block;
 abbrev items : List Item
 items = span 0 0 0 ∷ span 0 1 4 ∷ variants.Gap 0 kinds.Bad ∷ span 0 3 8 ∷ span 1 5 12 ∷ []
 
+abbrev index : Indexed
+index = record { items = items; links = []; blocks = 7 }
+
 abbrev both : ℕ → List Need
 both block = record { block = block; half = Right } ∷ record { block = suc block; half = Left } ∷ []
 
 -- one frame needs two halves
-one_frame : needs items 5 (Read 1) ≡ both 1
+one_frame : needs index 5 (Read 1) ≡ both 1
 unfolding needs_between listed run frames_of_link frame_count
 one_frame = refl
 
 -- two frames at a border of spans need four
-at_a_border : needs items 3 (Read 2) ≡ both 0 ++ both 1
+at_a_border : needs index 3 (Read 2) ≡ both 0 ++ both 1
 unfolding needs_between listed run frames_of_link frame_count
 at_a_border = refl
 
 -- a read up to a gap needs nothing behind it, however many frames are wanted
-before_a_gap : needs items 4 (Read 65536) ≡ both 1
+before_a_gap : needs index 4 (Read 65536) ≡ both 1
 unfolding needs_between listed run frames_of_link frame_count
 before_a_gap = refl
 
 -- at a gap nothing is needed
-gap_needs_nothing : needs items 8 (Read 9) ≡ []
+gap_needs_nothing : needs index 8 (Read 9) ≡ []
 unfolding needs_between listed run frames_of_link frame_count
 gap_needs_nothing = refl
 
 -- behind a gap, and no further than the link
-behind_a_gap : needs items 9 (Read 9) ≡ both 3
+behind_a_gap : needs index 9 (Read 9) ≡ both 3
 unfolding needs_between listed run frames_of_link frame_count
 behind_a_gap = refl
 
 -- at the end nothing is needed
-end_needs_nothing : needs items 17 (Read 9) ≡ []
+end_needs_nothing : needs index 17 (Read 9) ≡ []
 unfolding needs_between listed run frames_of_link frame_count
 end_needs_nothing = refl

@@ -1,4 +1,5 @@
 pub mod Parts
+pub mod PartsAt
 pub mod Places
 pub mod RunLaws
 pub mod ReadLaws
@@ -8,3 +9,6 @@ pub mod Shapes
 pub mod ByOrigins
 pub mod ChannelReads
 pub mod Examples
+pub mod Mixing
+pub mod SpliceParts
+pub mod SpliceExamples

@@ -7,7 +7,7 @@ use Rattle.model_cursor.specs.declared.reply.Sought.TheVariants as answers
 use Rattle.model_cursor.specs.FrameLists.{Frame}
 use Rattle.model_cursor.specs.Runs.{run, run_at}
 use Rattle.model_cursor.specs.Cursors.{CursorState, IsCursor, next_frames, passed, read_of, read, placed, seek}
-use Rattle.model_cursor.specs.Laws.{ReadsGoOn, StatesStayCursors}
+use Rattle.model_cursor.specs.Laws.{ReadsGoOn, RunsGoOnBehindPatches, StatesStayCursors}
 use Rattle.model_cursor.proofs.Places.{place_after-within}
 use Rattle.model_cursor.proofs.RunLaws.{run-drop, run_within}
 
@@ -49,6 +49,14 @@ next_behind line s count c h =
 
 pub reads_go_on : ReadsGoOn
 reads_go_on = λ line s count c h. next_behind line s count c h
+
+behind_front : {A : Type 0} (front back : List A) → drop (length front) (front ++ back) ≡ back
+behind_front [] back = refl
+behind_front (x ∷ front) back = behind_front front back
+
+pub runs_go_on_behind_patches : RunsGoOnBehindPatches
+unfolding next_frames
+runs_go_on_behind_patches = λ line s. behind_front s.patch (drop (length s.patch) (run_at line s.place))
 
 -- ---- cursors stay cursors
 

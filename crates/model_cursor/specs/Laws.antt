@@ -3,7 +3,7 @@ use Rattle.std.specs.Prelude.{◌≡◌, ◌≢◌, ℕ, ◌≤◌, ◌<◌, Lis
 use Rattle.model_line.specs.Decode.{LineItem, frame, gap, frame_count}
 use Rattle.model_line.specs.Origins.{Origin}
 use Rattle.model_cursor.specs.FrameLists.{Frame}
-use Rattle.model_cursor.specs.Runs.{frames_of_link}
+use Rattle.model_cursor.specs.Runs.{frames_of_link, run_at}
 use Rattle.model_cursor.specs.Cursors.{CursorState, IsCursor, frames_before, tell, next_frames, passed, read, place_after, seek}
 
 -- items do not begin with a frame of this link
@@ -23,6 +23,11 @@ abbrev pub ReadsGoOn : Type 0
 ReadsGoOn = (line : List (LineItem Frame)) (s : CursorState) (count : ℕ) → IsCursor line s
     → count < length (next_frames line s)
     → next_frames line (passed count s) ≡ drop count (next_frames line s)
+
+-- Behind a patch the frames of the run are next, as they are.
+abbrev pub RunsGoOnBehindPatches : Type 0
+RunsGoOnBehindPatches = (line : List (LineItem Frame)) (s : CursorState)
+    → drop (length s.patch) (next_frames line s) ≡ drop (length s.patch) (run_at line s.place)
 
 -- A seek within the line goes to a place with so many frames before it, and to no later one than
 -- another such place.

@@ -1,7 +1,9 @@
 pub mod FrameLists
 pub mod Runs
 pub mod Cursors
+pub mod Splices
 pub mod Plans
 pub mod Positions
 pub mod Sources
 pub mod Laws
+pub mod SpliceLaws

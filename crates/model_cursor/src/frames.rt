@@ -1,4 +1,4 @@
-ghost use Rattle.std.specs.Prelude.{◌≡◌, ◌*◌, ◌/◌, ◌<◌, ℕ, length};
+ghost use Rattle.std.specs.Prelude.{◌≡◌, ◌*◌, ◌/◌, ◌<◌, ℕ, [], length, slice_index_or};
 ghost use Rattle.std.specs.List.{flat_map};
 ghost use Rattle.model_cursor.specs.FrameLists.{frames_in, values_of};
 
@@ -46,5 +46,18 @@ impl Frames {
         ensures { result ≡ length self.now }
     {
         self.values.len() / usize::from(self.channels)
+    }
+
+    /// The values of the frame of this number, one per channel, or none behind the last frame.
+    pub fn frame(&self, number: usize) -> &[i64]
+        ensures { result.now ≡ slice_index_or self.now number [] }
+    {
+        let channels = usize::from(self.channels);
+        if number < self.values.len() / channels {
+            let values = self.items();
+            &values[number * channels..(number + 1) * channels]
+        } else {
+            &[]
+        }
     }
 }

@@ -18,4 +18,6 @@ pub type Needs = Sequence<Need>;
 pub enum Task {
     /// To give at most so many of the frames that follow.
     Read { frames: u32 },
+    /// To go to the frame of this number, and over to it from the frames that follow.
+    Lap { place: u64 },
 }

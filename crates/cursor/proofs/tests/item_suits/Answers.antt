@@ -1,5 +1,5 @@
-use Rattle.std.proofs.Common.{◌≡◌, ◌≤◌, ◌<◌, ◌+◌, ◌*◌, ◌^◌, ℕ, ℤ, pos, List, [], ◌∷◌, length, Bool, true, false, refl, arith, Some}
-use Rattle.std.specs.Prelude.{replicate, slice_get, nat_le, unsigned_abs}
+use Rattle.std.proofs.Common.{◌≡◌, ◌≤◌, ◌<◌, ◌+◌, ◌^◌, ℕ, ℤ, pos, List, [], ◌∷◌, length, Bool, true, false, refl, arith, Some}
+use Rattle.std.specs.Prelude.{replicate, slice_get}
 use Rattle.std.specs.Bool.{OnTrue}
 use Rattle.std.specs.List.{All}
 use Rattle.std.proofs.lemmas.Bool.{leb-true}
@@ -7,8 +7,8 @@ use Rattle.std.proofs.lemmas.List.Elements.{All-cons, All-nil, All-replicate}
 use Rattle.model_synthesis.specs.Transform.{IsBlockValue}
 use Rattle.model_line.specs.declared.item.Span.{Span}
 use Rattle.model_line.specs.declared.item.LinkFacts.{LinkFacts}
-use Rattle.model_line.specs.Blocks.{Values, len_of}
-use Rattle.model_cursor.specs.Sources.{Source, IsHalfBlock, channels_in, SpanSuits}
+use Rattle.model_line.specs.Blocks.{len_of}
+use Rattle.model_cursor.specs.Sources.{IsHalfBlock, channels_in, SpanSuits}
 use Rattle.cursor.proofs.tests.item_suits.Goals as goal
 
 on_true : (b : Bool) (P : Type 0) → (b ≡ true → P) → OnTrue b P

@@ -1,4 +1,4 @@
-use Rattle.std.proofs.Common.{◌≡◌, ◌≤◌, ℕ, zero, suc, List, [], ◌∷◌, Bool, true, length, take, refl, ap, sym, arith, pos}
+use Rattle.std.proofs.Common.{◌≡◌, ◌≤◌, ℕ, zero, suc, List, [], ◌∷◌, true, length, take, refl, ap, sym, arith, pos}
 use Rattle.std.specs.Prelude.{replicate}
 use Rattle.model_line.specs.declared.item.Item.{Item}
 use Rattle.model_line.specs.declared.item.Item.TheVariants as variants

@@ -11,4 +11,4 @@ returns-then-place-total-clause-state c = seek_past _ _ _ _ c.total-total.ensure
 pub returns-clause-state : goal.returns-clause-state
 returns-clause-state c =
     seek_at _ _ _ (omega arith)
-    ∙ ap (λ (s : CursorState). let r : Sought × CursorState = (answers.At c.args.place, s) in r) (sym c.behind.ensures.state)
+    ∙ ap (λ (s : CursorState). let r : Sought × CursorState = (answers.At c.args.place, s) in r) (sym c.at.ensures.state)
