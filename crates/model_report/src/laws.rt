@@ -1,4 +1,4 @@
-ghost use Rattle.model_report.specs.Laws.{LanesAreApart, EachHasAnAnswer, OthersStay, OpensOnce};
+ghost use Rattle.model_report.specs.Laws.{LanesAreApart, EachHasAnAnswer, OthersStay, OpensOnce, CrossesItself, CrossesOpenOnes};
 
 /// The text of a lane is that of its number and its own commands, whatever the other lanes are.
 pub fn lanes_are_apart()
@@ -10,7 +10,7 @@ pub fn each_has_an_answer()
     ensures { EachHasAnAnswer }
 {}
 
-/// A command leaves the cursors of the other numbers as they were.
+/// A command changes at most the cursor that it names, and a cross at most the new one.
 pub fn others_stay()
     ensures { OthersStay }
 {}
@@ -18,4 +18,14 @@ pub fn others_stay()
 /// To open a cursor that is open changes no cursor.
 pub fn opens_once()
     ensures { OpensOnce }
+{}
+
+/// To cross a cursor that is open with itself changes no cursor.
+pub fn crosses_itself()
+    ensures { CrossesItself }
+{}
+
+/// A cross of which a cursor isn't open changes no cursor.
+pub fn crosses_open_ones()
+    ensures { CrossesOpenOnes }
 {}

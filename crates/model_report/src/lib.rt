@@ -1,6 +1,9 @@
-//! The report of a script over a film: what the cursors of each lane answer from the film's line.
+//! The report of a script over a film: what the cursors of each lane answer from what is heard of
+//! the film.
 #![tactic(auto)]
 
 mod laws;
 
-pub use laws::{each_has_an_answer, lanes_are_apart, opens_once, others_stay};
+pub use laws::{
+    crosses_itself, crosses_open_ones, each_has_an_answer, lanes_are_apart, opens_once, others_stay,
+};

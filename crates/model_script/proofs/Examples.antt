@@ -7,7 +7,7 @@ use Rattle.hex.specs.Hex.{encode_with}
 use Rattle.model_film.specs.Dumps.{frame_bytes}
 use Rattle.model_line.specs.declared.row.GapKind.TheVariants as kinds
 use Rattle.model_cursor.specs.declared.reply.Reply.TheVariants as replies
-use Rattle.model_script.specs.declared.command.Command.TheVariants.{Open, Read, Seek}
+use Rattle.model_script.specs.declared.command.Command.TheVariants.{Open, Read, Seek, Lap, Cross}
 use Rattle.model_script.specs.declared.command.Answer.TheVariants as answers
 use Rattle.model_script.specs.declared.fault.LineCause.TheVariants as causes
 use Rattle.model_script.specs.declared.fault.Which.TheVariants as limits
@@ -28,6 +28,16 @@ accepted = refl
 unended : script_of (script (codes "lane" ∷ []) ++ codes "seek 15 18446744073709551615") ≡ Ok ((Seek 15 18446744073709551615 ∷ []) ∷ [])
 unfolding script_of worded_lines said first_refusal
 unended = refl
+
+-- a lap and a cross, each with two numbers
+spliced : script_of (script (codes "lane" ∷ codes "lap 0 32" ∷ codes "cross 0 15" ∷ [])) ≡ Ok ((Lap 0 32 ∷ Cross 0 15 ∷ []) ∷ [])
+unfolding script_of worded_lines said first_refusal
+spliced = refl
+
+-- both cursors of a cross are cursors of a lane
+other_cursor : script_of (script (codes "lane" ∷ codes "cross 15 16" ∷ [])) ≡ Err (faults.Line 2 causes.Range)
+unfolding script_of worded_lines said first_refusal
+other_cursor = refl
 
 -- a script without bytes has no lanes
 empty : script_of [] ≡ Ok []
@@ -76,6 +86,18 @@ closed = refl
 invalid : reply_line (Seek 0 33) (answers.Given (replies.Invalid 32)) 1 ≡ codes "seek 0 invalid total 32" ++ 10 ∷ []
 unfolding digits
 invalid = refl
+
+lapped : reply_line (Lap 0 33) (answers.Given (replies.At 33)) 1 ≡ codes "lap 0 at 33" ++ 10 ∷ []
+unfolding digits
+lapped = refl
+
+crossed : reply_line (Cross 0 1) answers.Ok 1 ≡ codes "cross 0 1 ok" ++ 10 ∷ []
+unfolding digits
+crossed = refl
+
+not_crossed : reply_line (Cross 0 1) answers.NoCursor 1 ≡ codes "cross 0 1 no cursor" ++ 10 ∷ []
+unfolding digits
+not_crossed = refl
 
 lost : reply_line (Read 0 1) (answers.Given (replies.Gap kinds.Lost)) 1 ≡ codes "read 0 gap lost" ++ 10 ∷ []
 unfolding digits

@@ -38,12 +38,15 @@ name_of verbs.Lane = codes "lane"
 name_of verbs.Open = codes "open"
 name_of verbs.Read = codes "read"
 name_of verbs.Seek = codes "seek"
+name_of verbs.Lap = codes "lap"
+name_of verbs.Cross = codes "cross"
 name_of verbs.Tell = codes "tell"
 name_of verbs.Close = codes "close"
 
 abbrev pub all_verbs : List Verb
 all_verbs =
-    verbs.Lane ∷ verbs.Open ∷ verbs.Read ∷ verbs.Seek ∷ verbs.Tell ∷ verbs.Close ∷ []
+    verbs.Lane
+    ∷ verbs.Open ∷ verbs.Read ∷ verbs.Seek ∷ verbs.Lap ∷ verbs.Cross ∷ verbs.Tell ∷ verbs.Close ∷ []
 
 -- the first word that is written so
 abbrev pub verb_of : List ℕ → Option Verb
@@ -90,6 +93,8 @@ ranges_of verbs.Lane = []
 ranges_of verbs.Open = cursors ∷ []
 ranges_of verbs.Read = cursors ∷ counts ∷ []
 ranges_of verbs.Seek = cursors ∷ places ∷ []
+ranges_of verbs.Lap = cursors ∷ places ∷ []
+ranges_of verbs.Cross = cursors ∷ cursors ∷ []
 ranges_of verbs.Tell = cursors ∷ []
 ranges_of verbs.Close = cursors ∷ []
 
@@ -110,6 +115,10 @@ line_by verbs.Read numbers =
     lines.Gives (commands.Read (slice_index numbers 0) (slice_index numbers 1))
 line_by verbs.Seek numbers =
     lines.Gives (commands.Seek (slice_index numbers 0) (slice_index numbers 1))
+line_by verbs.Lap numbers =
+    lines.Gives (commands.Lap (slice_index numbers 0) (slice_index numbers 1))
+line_by verbs.Cross numbers =
+    lines.Gives (commands.Cross (slice_index numbers 0) (slice_index numbers 1))
 line_by verbs.Tell numbers = lines.Gives (commands.Tell (slice_index numbers 0))
 line_by verbs.Close numbers = lines.Gives (commands.Close (slice_index numbers 0))
 

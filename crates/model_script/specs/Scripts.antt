@@ -93,6 +93,8 @@ abbrev pub IsRight : Command → Type 0
 IsRight (commands.Open c) = c ≤ GREATEST_CURSOR
 IsRight (commands.Read c n) = (c ≤ GREATEST_CURSOR) × (0 < n) × (n ≤ GREATEST_READ)
 IsRight (commands.Seek c p) = (c ≤ GREATEST_CURSOR) × (p < 2 ^ 64)
+IsRight (commands.Lap c p) = (c ≤ GREATEST_CURSOR) × (p < 2 ^ 64)
+IsRight (commands.Cross c d) = (c ≤ GREATEST_CURSOR) × (d ≤ GREATEST_CURSOR)
 IsRight (commands.Tell c) = c ≤ GREATEST_CURSOR
 IsRight (commands.Close c) = c ≤ GREATEST_CURSOR
 

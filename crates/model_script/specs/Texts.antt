@@ -52,18 +52,21 @@ fault_text faults.Memory = codes "memory"
 abbrev pub numbered : Verb → ℕ → List ℕ
 numbered verb n = name_of verb ++ (codes " " ++ decimal n)
 
--- a command's first word and its cursor
+-- a command's first word and its cursor, or both of its cursors
 abbrev pub head_text : Command → List ℕ
 head_text (commands.Open c) = numbered verbs.Open c
 head_text (commands.Read c n) = numbered verbs.Read c
 head_text (commands.Seek c p) = numbered verbs.Seek c
+head_text (commands.Lap c p) = numbered verbs.Lap c
+head_text (commands.Cross c d) = numbered verbs.Cross c ++ (codes " " ++ decimal d)
 head_text (commands.Tell c) = numbered verbs.Tell c
 head_text (commands.Close c) = numbered verbs.Close c
 
--- what a command's line has behind its cursor
+-- what a command's line has behind its cursors
 abbrev pub tail_text : Command → List ℕ
 tail_text (commands.Read c n) = codes " " ++ decimal n
 tail_text (commands.Seek c p) = codes " " ++ decimal p
+tail_text (commands.Lap c p) = codes " " ++ decimal p
 tail_text _ = []
 
 -- a command's own line, without its end

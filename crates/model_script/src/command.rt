@@ -10,6 +10,11 @@ pub enum Command {
     Read { c: u8, n: u32 },
     /// To go to the frame of this number.
     Seek { c: u8, p: u64 },
+    /// To go to the frame of this number, and over to it from the frames that follow.
+    Lap { c: u8, p: u64 },
+    /// To go over to where the new cursor `d` is from the frames that follow at the old cursor `c`,
+    /// which stays.
+    Cross { c: u8, d: u8 },
     /// To tell where a cursor stands.
     Tell { c: u8 },
     /// To close a cursor.
@@ -23,6 +28,8 @@ pub enum Verb {
     Open,
     Read,
     Seek,
+    Lap,
+    Cross,
     Tell,
     Close,
 }
@@ -39,14 +46,14 @@ pub enum Line {
 /// What is answered to a command.
 #[derive(Debug, Drop)]
 pub enum Answer {
-    /// The cursor was opened, or closed.
+    /// The cursor was opened, or closed, or crossed.
     Ok,
     /// The cursor was to be opened, and is open.
     AlreadyOpen,
-    /// The cursor isn't open.
+    /// The cursor isn't open, or one of two.
     NoCursor,
     /// The cursor stands before the frame of this number, or at the end.
     Told { place: u64 },
-    /// What the cursor answered to a read or a seek.
+    /// What the cursor answered to a read, a seek or a lap.
     Given { reply: Reply },
 }

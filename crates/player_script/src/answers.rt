@@ -1,4 +1,4 @@
-ghost use Rattle.std.specs.Prelude.{◌≡◌, [], ◌∷◌, ◌++◌, OnOk, OnErr};
+ghost use Rattle.std.specs.Prelude.{◌≡◌, [], ◌∷◌, ◌++◌, codes, OnOk, OnErr};
 ghost use Rattle.std.specs.Fmt.{decimal};
 ghost use Rattle.model_script.specs.Texts.{head_text, tail_text, frames_text, given_text, reply_line};
 ghost use Rattle.player_script.specs.Bodies.{body_text};
@@ -30,7 +30,17 @@ fn write_number(bytes: &[u8], number: u64, out: &mut Vec<u8>) -> Result<(), NoMe
     write(digits.format(number).as_bytes(), out)
 }
 
-/// Writes the first word of a command, and its cursor.
+/// Writes two cursors, each behind some bytes.
+fn write_cursors(first: &[u8], c: u8, d: u8, out: &mut Vec<u8>) -> Result<(), NoMemory>
+    ensures ok { OnOk result (out.new.items
+        ≡ out.old.items ++ (first.now ++ decimal c ++ (codes " " ++ decimal d))) }
+    ensures err { OnErr result (IsFrontOf out.old.items out.new.items) }
+{
+    write_number(first, u64::from(c), out)?;
+    write_number(b" ", u64::from(d), out)
+}
+
+/// Writes the first word of a command, and its cursors.
 fn write_head(command: &Command, out: &mut Vec<u8>) -> Result<(), NoMemory>
     ensures ok { OnOk result (out.new.items ≡ out.old.items ++ head_text command.now) }
     ensures err { OnErr result (IsFrontOf out.old.items out.new.items) }
@@ -39,20 +49,25 @@ fn write_head(command: &Command, out: &mut Vec<u8>) -> Result<(), NoMemory>
         Command::Open { c } => write_number(b"open ", u64::from(c), out),
         Command::Read { c, n: _ } => write_number(b"read ", u64::from(c), out),
         Command::Seek { c, p: _ } => write_number(b"seek ", u64::from(c), out),
+        Command::Lap { c, p: _ } => write_number(b"lap ", u64::from(c), out),
+        Command::Cross { c, d } => write_cursors(b"cross ", c, d, out),
         Command::Tell { c } => write_number(b"tell ", u64::from(c), out),
         Command::Close { c } => write_number(b"close ", u64::from(c), out),
     }
 }
 
-/// Writes what a command's line has behind its cursor.
+/// Writes what a command's line has behind its cursors.
 fn write_tail(command: &Command, out: &mut Vec<u8>) -> Result<(), NoMemory>
     ensures ok { OnOk result (out.new.items ≡ out.old.items ++ tail_text command.now) }
     ensures err { OnErr result (IsFrontOf out.old.items out.new.items) }
 {
     match *command {
         Command::Read { c: _, n } => write_number(b" ", u64::from(n), out),
-        Command::Seek { c: _, p } => write_number(b" ", p, out),
-        Command::Open { c: _ } | Command::Tell { c: _ } | Command::Close { c: _ } => Ok(()),
+        Command::Seek { c: _, p } | Command::Lap { c: _, p } => write_number(b" ", p, out),
+        Command::Open { c: _ }
+        | Command::Cross { c: _, d: _ }
+        | Command::Tell { c: _ }
+        | Command::Close { c: _ } => Ok(()),
     }
 }
 

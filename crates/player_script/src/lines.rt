@@ -54,6 +54,17 @@ fn line_by(verb: Verb, words: Option<&[u8]>) -> Result<Line, LineCause>
             let (c, p) = two_numbers(words)?;
             Command::Seek { c: cursor(c)?, p }
         }
+        Verb::Lap => {
+            let (c, p) = two_numbers(words)?;
+            Command::Lap { c: cursor(c)?, p }
+        }
+        Verb::Cross => {
+            let (c, d) = two_numbers(words)?;
+            Command::Cross {
+                c: cursor(c)?,
+                d: cursor(d)?,
+            }
+        }
         Verb::Tell => Command::Tell {
             c: cursor(one_number(words)?)?,
         },

@@ -5,11 +5,11 @@ use std::alloc::{AllocError, Global};
 use std::test::Fail;
 
 /// What a row shows, a script, and the number and the cause of the line that is refused.
-const REFUSED: [(&str, &str, u32, LineCause); 30] = [
+const REFUSED: [(&str, &str, u32, LineCause); 37] = [
     ("an unknown word", "lane\njump 0\n", 2, LineCause::Word),
     (
-        "a word of a later command",
-        "lane\nlap 0 0\n",
+        "a word that begins like another",
+        "lane\nlapse 0 0\n",
         2,
         LineCause::Word,
     ),
@@ -21,6 +21,12 @@ const REFUSED: [(&str, &str, u32, LineCause); 30] = [
     (
         "a command before the first lane",
         "tell 0\n",
+        1,
+        LineCause::NoLane,
+    ),
+    (
+        "a cross before the first lane",
+        "cross 0\n",
         1,
         LineCause::NoLane,
     ),
@@ -39,6 +45,13 @@ const REFUSED: [(&str, &str, u32, LineCause); 30] = [
     ("a word behind `lane`", "lane 0\n", 1, LineCause::Count),
     ("no number", "lane\nopen\n", 2, LineCause::Count),
     ("a number too few", "lane\nseek 0\n", 2, LineCause::Count),
+    ("a lap to no place", "lane\nlap 0\n", 2, LineCause::Count),
+    (
+        "a cross to no cursor",
+        "lane\ncross 16\n",
+        2,
+        LineCause::Count,
+    ),
     (
         "a number too many",
         "lane\nread 0 1 1\n",
@@ -71,6 +84,18 @@ const REFUSED: [(&str, &str, u32, LineCause); 30] = [
         LineCause::Number,
     ),
     (
+        "a lap to 2^64",
+        "lane\nlap 16 18446744073709551616\n",
+        2,
+        LineCause::Number,
+    ),
+    (
+        "a cross to a wrong number",
+        "lane\ncross 16 01\n",
+        2,
+        LineCause::Number,
+    ),
+    (
         "a wrong number behind one out of range",
         "lane\nread 16 x\n",
         2,
@@ -79,6 +104,18 @@ const REFUSED: [(&str, &str, u32, LineCause); 30] = [
     (
         "a cursor past the last",
         "lane\nclose 16\n",
+        2,
+        LineCause::Range,
+    ),
+    (
+        "a lap of a cursor past the last",
+        "lane\nlap 16 0\n",
+        2,
+        LineCause::Range,
+    ),
+    (
+        "a cross to a cursor past the last",
+        "lane\ncross 15 16\n",
         2,
         LineCause::Range,
     ),
@@ -201,10 +238,11 @@ fn tells_the_line_that_passes_a_limit(rt: HostRuntime) -> Result<(), Fail> {
 
 /// A script with each command, at the ends of the ranges.
 const SCRIPT: &str = "lane\nopen 0\nread 15 65536\nread 1 1\nseek 2 0\n\
-    seek 2 18446744073709551615\nlane\nlane\ntell 9\nclose 10";
+    seek 2 18446744073709551615\nlap 0 18446744073709551615\ncross 15 0\n\
+    lane\nlane\ntell 9\nclose 10";
 
 /// The commands of its first lane.
-const FIRST: [Command; 5] = [
+const FIRST: [Command; 7] = [
     Command::Open { c: 0 },
     Command::Read { c: 15, n: 65536 },
     Command::Read { c: 1, n: 1 },
@@ -213,6 +251,11 @@ const FIRST: [Command; 5] = [
         c: 2,
         p: 18446744073709551615,
     },
+    Command::Lap {
+        c: 0,
+        p: 18446744073709551615,
+    },
+    Command::Cross { c: 15, d: 0 },
 ];
 
 /// The commands of its third lane; its second has none.
@@ -247,6 +290,11 @@ fn writes_answers(rt: HostRuntime) -> Result<(), Fail> {
     let read = Command::Read { c: 15, n: 65536 };
     let closed = line(rt.alloc(), &read, &Answer::NoCursor, 1)?;
     assert_eq!(rt; closed.as_slice(), b"!read 15 65536 no cursor\n".as_slice());
+    let cross = Command::Cross { c: 15, d: 0 };
+    let crossed = line(rt.alloc(), &cross, &Answer::Ok, 1)?;
+    assert_eq!(rt; crossed.as_slice(), b"!cross 15 0 ok\n".as_slice());
+    let stays = line(rt.alloc(), &cross, &Answer::NoCursor, 1)?;
+    assert_eq!(rt; stays.as_slice(), b"!cross 15 0 no cursor\n".as_slice());
     let tell = Command::Tell { c: 0 };
     let told = line(rt.alloc(), &tell, &Answer::Told { place: 4194304 }, 1)?;
     assert_eq!(rt; told.as_slice(), b"!tell 0 4194304\n".as_slice());
@@ -268,6 +316,11 @@ fn writes_what_cursors_reply(rt: HostRuntime) -> Result<(), Fail> {
         invalid.as_slice(),
         b"!seek 1 invalid total 32\n".as_slice()
     );
+    let lap = Command::Lap { c: 2, p: 33 };
+    let over = given(rt.alloc(), &lap, Reply::At { place: 33 })?;
+    assert_eq!(rt; over.as_slice(), b"!lap 2 at 33\n".as_slice());
+    let past = given(rt.alloc(), &lap, Reply::Invalid { total: 32 })?;
+    assert_eq!(rt; past.as_slice(), b"!lap 2 invalid total 32\n".as_slice());
     let read = Command::Read { c: 0, n: 9 };
     let lost = given(
         rt.alloc(),

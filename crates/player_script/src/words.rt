@@ -26,6 +26,8 @@ pub fn verb(word: &[u8]) -> Option<Verb>
         b"open" => Some(Verb::Open),
         b"read" => Some(Verb::Read),
         b"seek" => Some(Verb::Seek),
+        b"lap" => Some(Verb::Lap),
+        b"cross" => Some(Verb::Cross),
         b"tell" => Some(Verb::Tell),
         b"close" => Some(Verb::Close),
         _ => None,

@@ -10,22 +10,21 @@ use Rattle.vf_outside.specs.declared.sink.PutFault.{PutFault}
 use Rattle.vf_outside.specs.declared.sink.PutFault.TheVariants as faults
 use Rattle.model_synthesis.specs.Tables.{ConstantTables}
 use Rattle.model_line.specs.Acceptance.{FilmLink}
-use Rattle.model_line.specs.Decode.{LineItem}
-use Rattle.model_cursor.specs.FrameLists.{Frame}
 use Rattle.model_script.specs.declared.command.Command.{Command}
+use Rattle.model_report.specs.Lanes.{Heard}
 use Rattle.model_report.specs.Reports.{lane_text, lane_texts, report_of}
 use Rattle.film_dump.proofs.Midst.{part_of}
 use Rattle.player_session.proofs.Puts.{Keeps-same, Appends-nothing}
 
 -- ---- each has its first line
 
-texts_some : (line : List (LineItem Frame)) (channels : ℕ → ℕ) (number : ℕ) (lanes : List (List Command)) → All (λ (text : List ℕ). 0 < length text) (map (lane_text line channels) (enumerate_from number lanes))
-texts_some line channels number [] = All-nil (λ (text : List ℕ). 0 < length text)
-texts_some line channels number (lane ∷ lanes) = All-cons (λ (text : List ℕ). 0 < length text) _ _ (omega arith) (texts_some line channels (number + 1) lanes)
+texts_some : (heard : Heard) (number : ℕ) (lanes : List (List Command)) → All (λ (text : List ℕ). 0 < length text) (map (lane_text heard) (enumerate_from number lanes))
+texts_some heard number [] = All-nil (λ (text : List ℕ). 0 < length text)
+texts_some heard number (lane ∷ lanes) = All-cons (λ (text : List ℕ). 0 < length text) _ _ (omega arith) (texts_some heard (number + 1) lanes)
 
 pub report_some : (tables : ConstantTables) (links : List FilmLink) (lanes : List (List Command)) → All (λ (text : List ℕ). 0 < length text) (report_of tables links lanes)
 unfolding report_of lane_texts
-report_some tables links lanes = texts_some _ _ 0 lanes
+report_some tables links lanes = texts_some _ 0 lanes
 
 -- ---- the first texts, the next, and those behind it
 

@@ -12,7 +12,7 @@ use crate::command::Play;
 use crate::files::{read_reel, read_script};
 use crate::notes::write_memory;
 use crate::stops::{Stop, write_stop};
-use model_player::{Counts, Status};
+use model_player::Status;
 use script_playing::{Report, Text};
 use std::alloc::Global;
 use vf_outside::{Gate, PutFault, Shelf, Sink};
@@ -61,12 +61,7 @@ fn played<F: Shelf, G: Gate>(
 {
     let reel = read_reel(alloc, shelf, play.constants, play.film)?;
     let script = read_script(alloc, shelf, play.script)?;
-    let Counts {
-        helpers,
-        slots,
-        setups,
-    } = play.counts;
-    let report = script_playing::play(alloc, &reel, &script, helpers, slots, setups, gate)?;
+    let report = script_playing::play(alloc, &reel, &script, play.counts, gate)?;
     Ok(report)
 }
 

@@ -4,6 +4,7 @@ ghost use Rattle.script_playing.specs.Playing.{CanBePlayed};
 
 use crate::lane::{Text, lane_text};
 use film_blocks::Reel;
+use model_player::Counts;
 use player_script::Script;
 use sequence::{NoMemory, Sequence};
 use std::alloc::Global;
@@ -13,8 +14,8 @@ use vf_outside::Gate;
 pub type Report = Sequence<Text>;
 
 /// Plays a script over a film: the report is what one cursor after the other answers from the whole
-/// line of the film, whatever the numbers of helpers and slots are. The lanes are played one after
-/// the other, so that helpers, slots and the gate wait for threads.
+/// line of the film, whatever the counts of helpers and slots are. The lanes are played one after
+/// the other, so that the counts and the gate wait for threads.
 ///
 /// # Errors
 ///
@@ -23,9 +24,7 @@ pub fn play<G: Gate>(
     alloc: Global,
     reel: &Reel,
     script: &Script,
-    _helpers: u32,
-    _slots: u32,
-    _setups: u32,
+    _counts: Counts,
     _gate: &G,
 ) -> Result<Report, NoMemory>
     requires { CanBePlayed reel.now.constants reel.now.film.links reel.now.film.index }

@@ -3,6 +3,7 @@
 #![tactic(auto)]
 
 mod answers;
+mod crosses;
 mod lane;
 mod lanes;
 mod plain;
@@ -10,9 +11,7 @@ mod plain;
 pub use film_blocks::{Constants, Film, Reel};
 pub use lane::Text;
 pub use lanes::{Report, play};
+pub use model_player::Counts;
 pub use plain::PlainBlocks;
 pub use player_script::Script;
 pub use sequence::NoMemory;
-
-#[cfg(test)]
-mod tests;

@@ -14,6 +14,8 @@ lane_only verbs.Lane e = refl
 lane_only verbs.Open e = cc
 lane_only verbs.Read e = cc
 lane_only verbs.Seek e = cc
+lane_only verbs.Lap e = cc
+lane_only verbs.Cross e = cc
 lane_only verbs.Tell e = cc
 lane_only verbs.Close e = cc
 

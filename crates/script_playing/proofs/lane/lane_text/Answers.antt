@@ -1,6 +1,5 @@
 use Rattle.std.proofs.Common.{◌≡◌, ◌++◌, length, take, drop, refl, ap, ◌∙◌, arith}
-use Rattle.model_film.specs.FilmLines.{film_line}
-use Rattle.model_report.specs.Reports.{film_channels}
+use Rattle.model_report.specs.Reports.{heard_of}
 use Rattle.script_playing.proofs.LaneSteps.{lane_step, lane_end, given_back}
 use Rattle.script_playing.proofs.lane.lane_text.Goals as goal
 
@@ -15,8 +14,8 @@ loop-command-preserved c =
     rw back (record {
       count = omega (arith, c.write_answer.auto.cursors, ap length c.deref_mut.ensures.value, c.loop-command.invariant.count);
       positions = c.in_ok-write_answer.ensures.positions;
-      text = lane_step (film_line c.args.reel.now.constants c.args.reel.now.film.links) (film_channels c.args.reel.now.film.links) c.args.commands.now c.loop-command.command-index _ _ _ _ _ _ _ c.loop-command-test.true refl written left c.loop-command.invariant.text;
+      text = lane_step (heard_of c.args.reel.now.constants c.args.reel.now.film.links) c.args.commands.now c.loop-command.command-index _ _ _ _ _ _ _ c.loop-command-test.true refl written left c.loop-command.invariant.text;
     })
 
 pub returns : goal.returns
-returns c = c.of.ensures ∙ lane_end (film_line c.args.reel.now.constants c.args.reel.now.film.links) (film_channels c.args.reel.now.film.links) c.args.commands.now c.loop-command.command-index _ c.loop-command.text.items _ c.loop-command-test.false c.loop-command.invariant.text
+returns c = c.of.ensures ∙ lane_end (heard_of c.args.reel.now.constants c.args.reel.now.film.links) c.args.commands.now c.loop-command.command-index _ c.loop-command.text.items _ c.loop-command-test.false c.loop-command.invariant.text
