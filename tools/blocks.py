@@ -72,13 +72,13 @@ def weight(constants, size, left, right, i):
     return 0 if place < 0 else ONE if place >= width else constants.slope(width, place)
 
 
-def block(data, channels, audio, constants):
-    """The values of each channel of the block of a packet, in units of 2^-20."""
+def block(data, channels, audio, constants, sizes=(SHORT, LONG)):
+    """The values of each channel of the block of a packet, in units of 2^-20, in a link of blocks of these sizes."""
     setup, bits = Setup(data, channels), Bits(audio)
     assert bits.take(1) == 0
     long, mapping_number = setup.modes[bits.take(ilog(len(setup.modes) - 1))]
-    size = LONG if long else SHORT
-    left, right = (size if not long or bits.take(1) else SHORT for _ in range(2))
+    size = sizes[long]
+    left, right = (size if not long or bits.take(1) else sizes[0] for _ in range(2))
     for lines in spectra(setup, bits, mapping_number, size // 2, channels, constants):
         sums = [sum(x * constants.cosine(size, (2 * i + 1 + size // 2) * (2 * k + 1)) for k, x in enumerate(lines))
                 for i in range(size)]

@@ -15,8 +15,8 @@ ROOT = os.path.join(os.path.dirname(os.path.abspath(__file__)), '..', 'crates')
 COLUMNS, ARGUMENTS, LINES = 100, 6, 40
 # Lines that the kit's formatter keeps whole.
 UNBROKEN = ('ghost use', 'use ', 'pub use', '#[tactic(')
-# What a method is called on is no argument, and neither is the allocator.
-RECEIVERS = {'&self', '&mut self', 'self', 'mut self', 'alloc: Global'}
+# What a method is called on is no argument.
+RECEIVERS = {'&self', '&mut self', 'self', 'mut self'}
 FUNCTION = re.compile(r'^( *)(?:pub(?:\(\w+\))? )?(?:const )?fn (\w+)', re.M)
 ITEM = re.compile(r'^( *)(?:pub(?:\(\w+\))? )?(?:fn|struct|enum|trait|const|static|type) (\w+)')
 ERROR = re.compile(r'#\[error\("([^"]*)"\)\]\n\s*(\w+)')

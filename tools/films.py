@@ -1,10 +1,11 @@
 #!/usr/bin/env python3
 """The films of the tests, built page by page (RFC 3533, section 6).
 
-    tools/films.py rust [NAME..]    the films of tests, all of them or these: player_tests' file src/runs/films.rt has all,
-                                    film_blocks' src/tests/films.rt has those that its first line names
-    tools/films.py plays            the films that scripts are played over: script_playing's file src/tests/films.rt
-    tools/films.py antt NAME.. the bytes of films as a list for an example
+    tools/films.py rust NAME..      these films, whole: film_blocks' src/tests/films.rt has those that its first line names
+    tools/films.py common           the films that several test crates use: tests_common's src/films.rt
+    tools/films.py runs             the others of player_tests, and those: its file src/runs/films.rt
+    tools/films.py plays            the others of play_tests, and those: its file src/films.rt
+    tools/films.py antt NAME..      the bytes of films as a list for an example
     tools/films.py file NAME PATH   one film as a file
 """
 import struct
@@ -48,8 +49,9 @@ S = bytes.fromhex("020000")
 Q = b"\0"
 
 
-def ident(channels=1, rate=8000):
-    return b"\x01vorbis" + bytes(4) + bytes([channels]) + struct.pack("<I", rate) + bytes(12) + b"\x66\x01"
+def ident(channels=1, rate=8000, sizes=b"\x66"):
+    """Sizes is the byte of the exponents of both block sizes."""
+    return b"\x01vorbis" + bytes(4) + bytes([channels]) + struct.pack("<I", rate) + bytes(12) + sizes + b"\x01"
 
 
 COMMENT = b"\x03vorbis" + bytes(8) + b"\x01"
@@ -167,10 +169,20 @@ BLOCK_PARTS = {
     "SOUND_ENDS": page(CONTINUED | LAST, 3, [LONG_SOUND[255:], Q], granule=32, serial=2),
 }
 
-# Parts of films that scripts are played over: a sound whose packet ends in its floor, and one behind which it is silent.
+# Parts of films that scripts are played over: a sound whose packet ends in its floor, one behind which it is silent, and
+# four blocks. Then those of second links: silence; a packet that sounds in both channels of two; and a link whose short
+# blocks have 128 values, and its long ones 256.
+T = bytes.fromhex("0200040000")
 PLAY_PARTS = {
     "FLOOR_ENDS": page(LAST, 2, [S, S[:2]], granule=32),
     "SOUND_ENDS_FIRST": page(LAST, 2, [S, Q], granule=32),
+    "FOUR_LAST": page(LAST, 2, [S, S, S, S], granule=96),
+    "SECOND_SILENT": page(LAST, 2, [Q, Q], granule=32, serial=2),
+    "BOTH_LAST": page(LAST, 2, [T, T], granule=32),
+    "SECOND_STEREO": page(FIRST, 0, [ident(channels=2)], serial=2),
+    "SECOND_BOTH": page(LAST, 2, [T, T], granule=32, serial=2),
+    "LARGE_IDENT": page(FIRST, 0, [ident(sizes=b"\x87")], serial=2),
+    "LARGE_LAST": page(LAST, 2, [S, S, Q], granule=128, serial=2),
 }
 
 # For films with many of them: pages of packets without bytes, 255 on a page, 252 and 253; and a header, with its lacing
@@ -244,11 +256,20 @@ BLOCK_FILMS = {
                    "IDENT SETUP SOUND_AND_SKIP SECOND_IDENT SECOND_MODES SOUND_BEGINS SOUND_ENDS"),
 }
 
-# Films of script_playing alone.
+# Films of play_tests alone.
 PLAY_FILMS = {
     "SILENT": ("Three audio packets, all silent.", "IDENT SETUP THREE_LAST"),
     "FLOOR_CUT_SHORT": ("Two audio packets, of which the second ends in its floor.", "IDENT SETUP FLOOR_ENDS"),
     "SILENT_AT_THE_END": ("Two audio packets, of which the second is silent.", "IDENT SETUP SOUND_ENDS_FIRST"),
+    "FOUR_BLOCKS": ("Four audio packets.", "IDENT SETUP FOUR_LAST"),
+    "SOUND_AND_SILENCE": ("Two links: two blocks that sound, and two that are silent.",
+                          "IDENT SETUP TWO_LAST SECOND_IDENT SECOND_SETUP SECOND_SILENT"),
+    "ONTO_STEREO": ("Two links that sound: of one channel, and of two.",
+                    "IDENT SETUP TWO_LAST SECOND_STEREO SECOND_SETUP SECOND_BOTH"),
+    "FROM_STEREO": ("Two links: one of two channels that sounds, and a silent one of one channel.",
+                    "STEREO_IDENT SETUP BOTH_LAST SECOND_IDENT SECOND_SETUP SECOND_SILENT"),
+    "LARGER_BLOCKS": ("Two links: two blocks of 64 values that sound, and three of 128, of which the last is silent.",
+                      "IDENT SETUP TWO_LAST LARGE_IDENT SECOND_SETUP LARGE_LAST"),
 }
 
 # Small films for examples by computation.
@@ -280,24 +301,56 @@ def rows(head, items, columns, end):
     return lines + ["]" + end]
 
 
-# The films of script_playing's tests.
-PLAYED = ["BASE", *PLAY_FILMS, "CUT_AT_THE_END", "BEGINS_LATE", "EMPTY_PACKET", "PAGE_MISSING", "NO_SUCH_MODE", "CHAIN", "BODY_CHANGED"]
+# The films that several test crates use, by tests_common.
+COMMON = ["BASE", "EMPTY_PACKET", "PAGE_MISSING", "BODY_CHANGED", "CHAIN", "CUT_AT_THE_END", "BEGINS_LATE", "NO_SUCH_MODE",
+          "NO_VORBIS", "FLOOR_OF_TYPE_0", "BOOK_TOO_LARGE"]
+# Parts that other films use as well.
+HEADS = {
+    "IDENT": "The page of an identification: one channel, 8000 frames a second, blocks of 64.",
+    "SETUP": "The page of a comment and of a setup.",
+    "TWO_LAST": "The last page of two audio packets.",
+    "THREE_LAST": "The last page of three audio packets, all silent.",
+    "SECOND_IDENT": "The page of an identification of a second link: 16000 frames a second.",
+    "SECOND_SETUP": "The page of its comment and of its setup.",
+}
 
 
-def rust(names, command):
-    """A test file of films, as it stands."""
-    films = {name: ALL_FILMS[name] for name in names} if names else FILMS
-    used = {part for _, parts in films.values() for part in parts.split()}
-    parts = {name: part for name, part in ALL_PARTS.items() if name in used} if names else PARTS | MANY
+def parts_of(names):
+    """The parts of films, each once, in the order of the table."""
+    used = {part for name in names for part in ALL_FILMS[name][1].split()}
+    return [name for name in ALL_PARTS if name in used]
+
+
+def imports(head, names):
+    """A line that brings names in, or several."""
+    whole = f"{head}::{{{', '.join(names)}}};"
+    if len(whole) <= 100:
+        return [whole]
+    lines, line = [head + "::{"], "   "
+    for name in names:
+        if len(line) + len(name) + 2 > 100:
+            lines.append(line)
+            line = "   "
+        line += f" {name},"
+    return lines + [line, "};"]
+
+
+def rust(names, command, parts, public=(), given=()):
+    """A test file of films, as it stands: their parts, of which some are public, the films, and what other files give."""
     lines = ["//! The films of the tests, as lists of their parts. This file is written by", f"//! `{command}`."]
-    for name, part in parts.items():
-        lines.append("")
-        kind = "pub const" if name in MANY else "const"
+    if given:
+        heads = sorted(set(parts_of(names)) & set(HEADS))
+        lines += ["", *imports("pub use tests_common::films", sorted(given)), *imports("use tests_common::films", heads)]
+    for name in parts:
+        part = (ALL_PARTS | MANY)[name]
+        lines += ["", f"/// {HEADS[name]}"] if name in public and name in HEADS else [""]
+        kind = "pub const" if name in public else "const"
         if part == LONG:
             lines.append(f"{kind} {name}: [u8; {len(part)}] = [0; {len(part)}];")
         else:
             lines += rows(f"{kind} {name}: [u8; {len(part)}] = ", [f"0x{b:02x}" for b in part], 16, ";")
-    for name, (text, parts) in films.items():
+    for name in names:
+        text, parts = ALL_FILMS[name]
         items = ["&" + part for part in parts.split()]
         lines += ["", f"/// {text}"]
         lines += rows(f"pub const {name}: [&[u8]; {len(items)}] = ", items, 1, ";")
@@ -309,11 +362,24 @@ def antt(names):
         print(f"-- {name}\n" + " ∷ ".join(str(b) for b in film(name)) + " ∷ []")
 
 
+def test_file(command):
+    """The file of a test crate, or of what they share."""
+    if command == "common":
+        rust(COMMON, "tools/films.py common", parts_of(COMMON), public=list(HEADS))
+    elif command == "runs":
+        own = [name for name in FILMS if name not in COMMON]
+        parts = [name for name in parts_of(own) if name not in parts_of(COMMON)]
+        rust(own, "tools/films.py runs", [*parts, *MANY], public=list(MANY), given=COMMON)
+    else:
+        parts = [name for name in parts_of(PLAY_FILMS) if name not in parts_of(COMMON)]
+        rust(PLAY_FILMS, "tools/films.py plays", parts, given=COMMON)
+
+
 if __name__ == "__main__":
-    if sys.argv[1:2] == ["rust"]:
-        rust(sys.argv[2:], " ".join(["tools/films.py rust", *sys.argv[2:]]))
-    elif sys.argv[1:] == ["plays"]:
-        rust(PLAYED, "tools/films.py plays")
+    if sys.argv[1:2] == ["rust"] and sys.argv[2:]:
+        rust(sys.argv[2:], " ".join(["tools/films.py rust", *sys.argv[2:]]), parts_of(sys.argv[2:]))
+    elif sys.argv[1:] in (["common"], ["runs"], ["plays"]):
+        test_file(sys.argv[1])
     elif sys.argv[1:2] == ["antt"]:
         antt(sys.argv[2:])
     elif sys.argv[1:2] == ["file"] and len(sys.argv) == 4:

@@ -59,9 +59,9 @@ def numbered(size):
     return b"".join(page(0, number) for number in range(2, 2 + size // 27))
 
 
-def most_packets(size):
-    """Pages of 255 packets without bytes, each behind a loss: 2^22 entries but for a few. Zeros follow."""
-    return behind_headers(again(page(0, 2, 255 * b"\0"), 16_383 * 282) + bytes(size), size)
+def most_packets(pattern, size):
+    """Pages of 255 packets without bytes, each behind a loss: 2^22 entries but for a few. A pattern follows."""
+    return behind_headers(again(page(0, 2, 255 * b"\0"), 16_383 * 282) + again(pattern, size), size)
 
 
 def films_of(size):
@@ -82,7 +82,8 @@ def films_of(size):
     yield "pages of one empty packet, all of one number", behind_headers(again(page(0, 2, b"\0"), size), size), 0
     yield "the largest pages", again(LARGEST_PAGE, size), 5
     yield "the largest pages, one bit of each wrong", again(LARGEST_PAGE[:-1] + b"\1", size), 5
-    yield "packets without bytes, as many as a film may have, and zeros", most_packets(size), 0
+    yield "packets without bytes, as many as a film may have, and zeros", most_packets(b"\0", size), 0
+    yield "as many packets, and capture bytes and a 0", most_packets(PREFIX, size), 0
 
 
 if __name__ == "__main__":

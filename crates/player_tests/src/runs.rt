@@ -3,85 +3,17 @@
 mod dumps;
 mod films;
 mod library_example;
-mod plays;
 
 use player_session::{Status, player, player_alone};
 use std::alloc::{AllocError, Global};
 use std::process::Abort;
 use std::test::Fail;
+use tests_common::{
+    Failing, Files, NOTHING_FAILS, Parts, Run, files_of, joined, run_words, words_of,
+};
 use vf_outside::{
     CleanShelf, CleanSink, FetchFault, MemShelf, MemSink, OpenGate, PutFault, Shelf, Sink,
 };
-
-/// A film, by its parts.
-type Parts = &'static [&'static [u8]];
-
-/// The bytes of a film of these parts, one after the other.
-fn joined(alloc: Global, parts: &[&[u8]]) -> Result<Vec<u8>, AllocError> {
-    let mut film = Vec::new(alloc);
-    for part in parts {
-        film.extend_from_slice(part)?;
-    }
-    Ok(film)
-}
-
-/// The numbers of the calls that fail.
-#[derive(Clone, Copy)]
-struct Failing {
-    shelf: &'static [u64],
-    out: &'static [u64],
-    notes: &'static [u64],
-}
-
-const NOTHING_FAILS: Failing = Failing {
-    shelf: &[],
-    out: &[],
-    notes: &[],
-};
-
-/// A run over memory.
-#[derive(Drop)]
-struct Run {
-    status: Status,
-    out: MemSink,
-    notes: MemSink,
-}
-
-/// These words, as the program has them.
-fn words_of(alloc: Global, words: &[&str]) -> Result<Vec<String>, AllocError> {
-    let mut given = Vec::new(alloc);
-    for word in words {
-        given.push(String::from_str(alloc, word)?)?;
-    }
-    Ok(given)
-}
-
-/// Files, by their names.
-type Files<'a> = &'a [(&'a str, &'a [u8])];
-
-/// These files, as a shelf has them.
-fn files_of(alloc: Global, files: Files<'_>) -> Result<Vec<(String, Vec<u8>)>, AllocError> {
-    let mut held = Vec::new(alloc);
-    for (name, bytes) in files {
-        held.push((String::from_str(alloc, name)?, bytes.to_vec(alloc)?))?;
-    }
-    Ok(held)
-}
-
-/// Runs these words over a shelf that holds these files.
-fn run_words(
-    alloc: Global,
-    words: &[&str],
-    files: Files<'_>,
-    failing: Failing,
-) -> Result<Run, AllocError> {
-    let words = words_of(alloc, words)?;
-    let mut shelf = MemShelf::new(alloc, files_of(alloc, files)?, failing.shelf.to_vec(alloc)?);
-    let mut out = MemSink::new(alloc, failing.out.to_vec(alloc)?);
-    let mut notes = MemSink::new(alloc, failing.notes.to_vec(alloc)?);
-    let status = player(alloc, &words, &mut shelf, &mut out, &mut notes, &OpenGate);
-    Ok(Run { status, out, notes })
-}
 
 fn assert_ends(rt: &impl Abort, case: &str, run: &Run, status: Status, out: &[u8], notes: &[u8]) {
     assert_eq!(rt; run.status, status, "{case}");
