@@ -1,0 +1,6 @@
+pub mod Draws
+pub mod MadeConstants
+pub mod MadeSetup
+pub mod MadeScript
+pub mod MadeFilm
+pub mod Laws
