@@ -1,5 +1,5 @@
 -- How the frames of a span are added, one after the other.
-use Rattle.std.proofs.Common.{◌≡◌, ℕ, ◌+◌, ◌-◌, ◌≤◌, ◌<◌, ℤ, List, [], ◌∷◌, ◌++◌, map, drop, Option, refl, sym, ap, ◌∙◌, arith, append_assoc, append-nil, take-append-drop, to_z, of_z, w16, pos, negsuc, ◌≤ℤ◌, ◌^◌, FitsSigned}
+use Rattle.std.proofs.Common.{◌≡◌, ℕ, ◌+◌, ◌-◌, ◌≤◌, ℤ, List, [], ◌∷◌, ◌++◌, map, drop, Option, refl, sym, ap, ◌∙◌, arith, append_assoc, append-nil, take-append-drop, to_z, of_z, w16, pos, negsuc, ◌≤ℤ◌, ◌^◌, FitsSigned}
 use Rattle.std.specs.Int.{to_le_bytes, cast_unsigned}
 use Rattle.std.specs.List.{range_with_len}
 use Rattle.std.proofs.lemmas.Int.{ints, to_z-of_z}

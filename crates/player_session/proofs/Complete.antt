@@ -1,6 +1,5 @@
 -- Where nothing fails, the duty was done.
 use Rattle.std.proofs.Common.{◌≡◌, ◌≢◌, ℕ, ◌≤◌, ◌<◌, List, length, Option, Some, None, Result, Ok, Err, refl, sym, ap, subst, ◌∙◌, inl, inr, arith}
-use Rattle.std.specs.Prelude.{◌⊎◌}
 use Rattle.vf_outside.specs.Told.{Told, MayBeTooLong}
 use Rattle.model_player.specs.declared.status.Status.{Status}
 use Rattle.model_player.specs.declared.status.Status.TheVariants as statuses
@@ -8,8 +7,8 @@ use Rattle.model_line.specs.Acceptance.{film_of}
 use Rattle.model_synthesis.specs.ConstantsFile.{constants_of}
 use Rattle.model_script.specs.Scripts.{script_of}
 use Rattle.model_player.specs.Commands.{Command, info, dump, play}
-use Rattle.model_player.specs.Courses.{Duty, writes, refuses, Course, comes_to, reads, judged, constants_refusal, film_refusal, script_refusal, reads_film, course_of}
-use Rattle.model_player.specs.Outcome.{ShelfRun, SinkRun, MayHave, MayComeTo, MustComeTo, too_long, Does, Outcome, Completes, Runs}
+use Rattle.model_player.specs.Courses.{Duty, writes, refuses, Course, comes_to, reads, judged, constants_refusal, film_refusal, script_refusal, course_of}
+use Rattle.model_player.specs.Outcome.{ShelfRun, SinkRun, MayHave, MayComeTo, MustComeTo, Does, Outcome, Completes, Runs}
 
 -- ---- what may be due is what must be
 

@@ -1,9 +1,8 @@
 -- The counts of a play, by its three words.
-use Rattle.std.proofs.Common.{◌≡◌, ℕ, ◌<◌, ◌≤◌, Bool, true, false, ◌&&◌, List, Option, Some, None, refl, sym, ap, arith}
+use Rattle.std.proofs.Common.{◌≡◌, ℕ, ◌<◌, ◌≤◌, Bool, true, false, ◌&&◌, List, Some, None, refl, sym, ap, arith}
 use Rattle.std.specs.Prelude.{nat_le, if◌then◌else◌}
 use Rattle.std.proofs.lemmas.Bool.Decides.{nat_tests}
-use Rattle.model_script.specs.Lines.{is_number, value_of, Range}
-use Rattle.model_player.specs.declared.counts.Counts.{Counts}
+use Rattle.model_script.specs.Lines.{is_number, value_of}
 use Rattle.model_player.specs.Commands.{helpers_range, slots_range, setups_range, number_in, counts_of}
 
 -- ---- one number

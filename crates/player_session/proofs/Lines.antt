@@ -1,14 +1,13 @@
 -- The lines of links, one link at a time.
-use Rattle.std.proofs.Common.{◌≡◌, ℕ, zero, suc, ◌+◌, ◌<◌, ◌≤◌, List, [], ◌∷◌, ◌++◌, length, map, drop, Option, Some, None, option_map, refl, sym, ap, ◌∙◌, append_assoc, add-one, arith}
+use Rattle.std.proofs.Common.{◌≡◌, ℕ, zero, suc, ◌+◌, List, [], ◌∷◌, ◌++◌, map, drop, Option, Some, None, option_map, refl, sym, ap, ◌∙◌, append_assoc, add-one, arith}
 use Rattle.std.specs.List.{flat_map, enumerate_from, slice_get}
-use Rattle.std.proofs.lemmas.List.{drop_all, append-nil, length-map}
 use Rattle.std.proofs.lemmas.Option.{slice_get-map}
 use Rattle.model_line.specs.declared.film.LinkCounts.{LinkCounts}
 use Rattle.model_line.specs.declared.item.LinkFacts.{LinkFacts}
 use Rattle.model_line.specs.Acceptance.{FilmLink}
 use Rattle.model_line.specs.PacketRows.{rows_of}
-use Rattle.model_line.specs.Index.{Indexed, Indexes, facts_of, facts_from}
-use Rattle.model_line.proofs.FactsAt.{slice_get-facts, length-facts}
+use Rattle.model_line.specs.Index.{Indexed, Indexes, facts_of}
+use Rattle.model_line.proofs.FactsAt.{slice_get-facts}
 use Rattle.model_player.specs.Texts.{lines_by, link_lines}
 
 -- ---- the lines of one link

@@ -1,5 +1,5 @@
 -- How reading files goes on along a course.
-use Rattle.std.proofs.Common.{◌≡◌, ℕ, ◌+◌, ◌-◌, ◌^◌, ◌≤◌, List, length, Result, Ok, Err, min, refl, sym, subst, ◌∙◌, inl, inr, arith}
+use Rattle.std.proofs.Common.{◌≡◌, ℕ, ◌≤◌, List, length, Result, Ok, Err, refl, subst, ◌∙◌, inl, inr, arith}
 use Rattle.vf_outside.specs.Told.{Told, MayGive, MayBeTooLong}
 use Rattle.vf_outside.specs.Faults.{one_more, Rose}
 use Rattle.model_player.specs.Courses.{Duty, Course, reads, judged}

@@ -1,7 +1,5 @@
-use Rattle.std.proofs.Common.{◌≡◌, ◌∙◌, sym, ap, subst, length, arith}
-use Rattle.std.specs.Prelude.{None}
+use Rattle.std.proofs.Common.{sym, arith}
 use Rattle.std.proofs.lemmas.Result.{err_from_is_err_and}
-use Rattle.model_line.specs.PacketRows.{block_packets}
 use Rattle.model_line.proofs.BlockPackets.{links_behind}
 use Rattle.model_film.proofs.SpanHalves.{spans_fit_halves}
 use Rattle.film_dump.specs.declared.fault.DumpFault.TheVariants as faults

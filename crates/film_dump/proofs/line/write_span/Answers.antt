@@ -1,4 +1,4 @@
-use Rattle.std.proofs.Common.{◌∙◌, arith}
+use Rattle.std.proofs.Common.{◌∙◌}
 use Rattle.std.proofs.lemmas.Result.{err_from_is_err_and}
 use Rattle.film_dump.proofs.Midst.{memory_broke}
 use Rattle.film_dump.proofs.KeptBlocks.{right_is, left_is}

@@ -1,5 +1,5 @@
 use Rattle.std.proofs.lemmas.Result.{err_from_is_err_and}
-use Rattle.model_player.specs.Courses.{reads_constants, reads_film}
+use Rattle.model_player.specs.Courses.{reads_film}
 use Rattle.model_player.specs.Outcome.{MayComeTo}
 use Rattle.player_session.proofs.Outcomes.{StopsBy-weaker}
 use Rattle.player_session.proofs.Readings.{first_within, second_within}
