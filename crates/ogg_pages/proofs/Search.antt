@@ -10,6 +10,7 @@ use Rattle.model_ogg.specs.declared.page.TheConstants.{HEADER_LEN}
 use Rattle.model_ogg.specs.declared.page.PageRef.{PageRef}
 use Rattle.model_ogg.specs.Pages.{IsPageOf, len_of, page_len, is_right_page, begins_page, page_ref}
 use Rattle.model_ogg.proofs.PageLaws.{page_len-least, page_ref-len, begins_page-fits}
+use Rattle.ogg_pages.specs.declared.scanner.TheConstants.{MOST_PAGE_LEN}
 use Rattle.ogg_pages.specs.Next.{page_front, whole_there, page_there, HasNoPage, IsNextPage, StandsWhole}
 use Rattle.std.proofs.lemmas.Option.{cond_some}
 
@@ -141,8 +142,8 @@ sum-most (suc n) start (b ∷ bytes) fits =
     let here : b < 2 ^ 8 = fits 0 in
     omega (arith, sum-most n (start + b) bytes (λ k. fits (suc k)))
 
--- a page has 65,307 bytes at most: 255 segments of 255 bytes
-page_len-most : (bytes : List ℕ) → ((k : ℕ) → get_or bytes k 0 < 2 ^ 8) → page_len bytes ≤ 65307
+-- a page has as many bytes at most as one with 255 segments of 255 bytes
+page_len-most : (bytes : List ℕ) → ((k : ℕ) → get_or bytes k 0 < 2 ^ 8) → page_len bytes ≤ MOST_PAGE_LEN
 unfolding page_len
 page_len-most bytes fits =
     let behind : (k : ℕ) → get_or (drop HEADER_LEN bytes) k 0 < 2 ^ 8 = λ k. rw (get_or-drop HEADER_LEN bytes k 0) (fits (HEADER_LEN + k)) in

@@ -3,6 +3,7 @@ use Rattle.std.specs.Prelude.{◌≡◌, ℕ, ◌+◌, ◌≤◌, ◌<◌, true,
 use Rattle.model_ogg.specs.declared.page.TheConstants.{HEADER_LEN}
 use Rattle.model_ogg.specs.declared.page.PageRef.{PageRef}
 use Rattle.model_ogg.specs.Pages.{IsPageOf, page_len, page_ref, begins_page}
+use Rattle.ogg_pages.specs.declared.scanner.TheConstants.{MOST_PAGE_LEN}
 use Rattle.ogg_pages.specs.Ring.{bytes_between}
 
 -- what every page begins with: the capture bytes and version 0
@@ -37,4 +38,4 @@ pub record StandsWhole (bytes : List ℕ) (place end : ℕ) (p : PageRef) : Type
   pub long : length (bytes_between bytes place end) + place ≡ end
   pub within : end ≤ length bytes
   pub least : place + HEADER_LEN ≤ end
-  pub most : end ≤ place + 65307
+  pub most : end ≤ place + MOST_PAGE_LEN

@@ -1,9 +1,20 @@
 -- A page that is written, and read again (RFC 3533, section 6).
-use Rattle.std.specs.Prelude.{◌≡◌, ℕ, List, ◌∷◌, ◌++◌, length, Option, Some, None, codes}
-use Rattle.std.specs.Int.{w32, w64, to_le_bytes}
+use Rattle.std.specs.Prelude.{◌≡◌, ℕ, List, ◌∷◌, ◌++◌, length}
 use Rattle.model_ogg.specs.declared.page.PageRef.{PageRef}
 use Rattle.model_ogg.specs.Pages.{laces_of, body_of, pages}
+use Rattle.model_ogg.specs.Writing.{PageFields}
 use Rattle.ogg_pages.specs.declared.page_out.PageOut.{PageOut}
+
+-- what a page says that is to be written
+abbrev pub fields_to_write : PageOut → PageFields
+fields_to_write page = record {
+  flags = page.flags;
+  granule = page.granule;
+  serial = page.serial;
+  sequence = page.sequence;
+  laces = page.laces.now;
+  body = page.body.now;
+}
 
 -- what the header of a page says where the page stands at place 0
 abbrev pub ref_of : PageOut → PageRef
@@ -24,19 +35,3 @@ pub record IsWritten (page : PageOut) (bytes : List ℕ) : Type 0 where
       → pages (bytes ++ rest) 0 ≡ ref_of page ∷ pages (bytes ++ rest) (length bytes)
   pub laces : (rest : List ℕ) → laces_of (bytes ++ rest) (ref_of page) ≡ page.laces.now
   pub body : (rest : List ℕ) → body_of (bytes ++ rest) (ref_of page) ≡ page.body.now
-
--- the number that stands for a granule position (field 4)
-abbrev pub granule_number : Option ℕ → ℕ
-granule_number None = 18446744073709551615
-granule_number (Some granule) = granule
-
--- what stands behind the field of the checksum
-abbrev pub behind_checksum : PageOut → List ℕ
-behind_checksum page = length page.laces.now ∷ (page.laces.now ++ page.body.now)
-
--- the bytes of a page with this number in the field of its checksum
-abbrev pub with_checksum : PageOut → ℕ → List ℕ
-with_checksum page own =
-    codes "OggS" ++ (0 ∷ page.flags ∷ (to_le_bytes w64 (granule_number page.granule)
-    ++ (to_le_bytes w32 page.serial ++ (to_le_bytes w32 page.sequence
-    ++ (to_le_bytes w32 own ++ behind_checksum page)))))

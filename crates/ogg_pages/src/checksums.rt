@@ -21,7 +21,8 @@ pub struct Checksums {
 impl Checksums {
     /// Before any page of any bytes is looked at, which all stand from a place on.
     pub fn new(from: usize) -> Checksums
-        ensures { (bytes : List ℕ) → from ≤ length bytes → AreChecksums bytes result }
+        ensures kept { (bytes : List ℕ) → from ≤ length bytes → AreChecksums bytes result }
+        ensures read { result.read ≡ from }
     {
         Checksums {
             ring: Ring::new(),

@@ -1,7 +1,8 @@
 ghost use Rattle.std.specs.Prelude.{◌≡◌, ◌≤◌, ◌<◌, ◌^◌, ◌++◌, length, take, drop, sum, IfOk, IfSome};
 ghost use Rattle.std.specs.Int.{w32, to_le_bytes};
 ghost use Rattle.model_ogg.specs.Checksum.{checksum_of};
-ghost use Rattle.ogg_pages.specs.Written.{IsWritten, granule_number, with_checksum};
+ghost use Rattle.model_ogg.specs.Writing.{granule_number, with_checksum, written_page};
+ghost use Rattle.ogg_pages.specs.Written.{IsWritten, fields_to_write};
 
 use crate::crc::checksum;
 use sequence::NoMemory;
@@ -28,9 +29,8 @@ pub struct PageOut<'a> {
 /// Puts a page's checksum into the field that it has for it.
 fn put_checksum(page: &mut [u8])
     requires { 26 ≤ length page.old }
-    ensures put { page.new ≡ take 22 page.old
+    ensures { page.new ≡ take 22 page.old
         ++ (to_le_bytes w32 (checksum_of page.old) ++ drop 26 page.old) }
-    ensures small { checksum_of page.old < 2 ^ 32 }
 {
     let sum = checksum(page);
     page[22..26].copy_from_slice(&sum.to_le_bytes());
@@ -46,7 +46,8 @@ fn granule_number(granule: Option<u64>) -> u64
 /// The bytes of a page, with 0 in the field of its checksum.
 fn bytes_without_checksum(alloc: Global, page: &PageOut) -> Result<Vec<u8>, NoMemory>
     requires laces { length page.now.laces.now ≤ 255 }
-    ensures bytes { IfOk result (λ bytes. bytes.items ≡ with_checksum page.now 0) }
+    ensures bytes { IfOk result
+        (λ bytes. bytes.items ≡ with_checksum (fields_to_write page.now) 0) }
     ensures serial { IfOk result (λ _. page.now.serial < 2 ^ 32) }
     ensures sequence { IfOk result (λ _. page.now.sequence < 2 ^ 32) }
 {
@@ -69,7 +70,9 @@ pub fn page_bytes(alloc: Global, page: &PageOut) -> Result<Vec<u8>, NoMemory>
     requires laces { length page.now.laces.now ≤ 255 }
     requires body { sum page.now.laces.now ≡ length page.now.body.now }
     requires granule { IfSome page.now.granule (λ granule. granule < 2 ^ 63) }
-    ensures { IfOk result (λ bytes. IsWritten page.now bytes.items) }
+    ensures found { IfOk result (λ bytes. IsWritten page.now bytes.items) }
+    ensures bytes { IfOk result
+        (λ bytes. bytes.items ≡ written_page (fields_to_write page.now)) }
 {
     let mut bytes = bytes_without_checksum(alloc, page)?;
     put_checksum(&mut bytes);

@@ -5,12 +5,21 @@ ghost use Rattle.ogg_pages.specs.Checksums.{AreChecksums};
 ghost use Rattle.ogg_pages.specs.Next.{page_front, whole_there, page_there, HasNoPage, IsNextPage, StandsWhole};
 
 use crate::checksums::Checksums;
+use crate::leaps::SLAB_LEN;
 use crate::parts::segments_len;
+use crate::ring::KEPT;
 use byteorder::{ByteOrder, LittleEndian};
 use memchr::memmem::Finder;
 use model_ogg::{HEADER_LEN, PageRef};
 use sequence::NoMemory;
 use std::alloc::Global;
+
+/// How many bytes a page has at most: its header, 255 lacing values, and 255 bytes for each of them
+/// (RFC 3533, section 6).
+const MOST_PAGE_LEN: usize = HEADER_LEN + 255 + 255 * 255;
+
+/// So the ring keeps a register for each slab of any page.
+const _: () = prove!(MOST_PAGE_LEN < KEPT * SLAB_LEN);
 
 /// What the header at the front says, of a page whose body has so many bytes.
 #[tactic(auto, unfolding(model_ogg::specs::Pages::page_ref, model_ogg::specs::Pages::granule_of))]
