@@ -31,22 +31,23 @@ with_segment_added bytes before after piece adds = adds.bytes bytes
 pub one_more : (bytes : List ℕ) (before now : List Entry) (entry : Entry) → now ≡ before ++ entry ∷ [] → items_of bytes now ≡ items_of bytes before ++ items_of bytes (entry ∷ [])
 one_more bytes before now entry e = rw e (map-append _ before (entry ∷ []))
 
-pub segments_go_on : (laces bytes : List ℕ) (i at : ℕ) (mark : Option Mark) (pending left total-left : Option (List ℕ)) (before now total : List StreamItem) → i < length laces
-    → now ≡ before ++ packet_ended (cond (list_any (λ n. nat_lt n 255) (drop (i + 1) laces)) None mark) pending (get_or laces i 0, take (get_or laces i 0) (drop at bytes))
+pub segments_go_on : (laces bytes : List ℕ) (i at : ℕ) (mark own : Option Mark) (pending left total-left : Option (List ℕ)) (before now total : List StreamItem) → i < length laces
+    → own ≡ cond (list_any (λ n. nat_lt n 255) (drop (i + 1) laces)) None mark
+    → now ≡ before ++ packet_ended own pending (get_or laces i 0, take (get_or laces i 0) (drop at bytes))
     → left ≡ one_pending pending (get_or laces i 0, take (get_or laces i 0) (drop at bytes))
     → before ++ packets_ended mark pending (segments (drop i laces) (drop at bytes)) ≡ total
     → left_pending pending (segments (drop i laces) (drop at bytes)) ≡ total-left
     → (now ++ packets_ended mark left (segments (drop (i + 1) laces) (drop (at + get_or laces i 0) bytes)) ≡ total)
     × (left_pending left (segments (drop (i + 1) laces) (drop (at + get_or laces i 0) bytes)) ≡ total-left)
 unfolding packets_ended left_pending
-segments_go_on laces bytes i at mark pending left total-left before now total lt now-is left-is items-is pending-is =
+segments_go_on laces bytes i at mark own pending left total-left before now total lt own-is now-is left-is items-is pending-is =
     let n = get_or laces i 0 in
     let more = segments-more laces i (drop at bytes) lt in
     let rest : drop n (drop at bytes) ≡ drop (at + n) bytes = drop-drop n at bytes in
     let any = any-segments (drop (i + 1) laces) (drop n (drop at bytes)) in
     let step : packets_ended mark pending (segments (drop i laces) (drop at bytes))
     ≡ packet_ended (cond (list_any (λ k. nat_lt k 255) (drop (i + 1) laces)) None mark) pending (n, take n (drop at bytes)) ++ packets_ended mark (one_pending pending (n, take n (drop at bytes))) (segments (drop (i + 1) laces) (drop n (drop at bytes))) = rw (more, any) refl in (
-      rw (now-is, left-is, ← rest) (append_assoc before _ _ ∙ ap (λ (x : List StreamItem). before ++ x) (sym step) ∙ items-is),
+      rw (now-is, left-is, own-is, ← rest) (append_assoc before _ _ ∙ ap (λ (x : List StreamItem). before ++ x) (sym step) ∙ items-is),
       rw (left-is, ← rest) (rw more at pending-is),
     )
 
@@ -73,6 +74,9 @@ packet_goes_on bytes place lace pending pieces le same =
     let test : nat_lt lace 255 ≡ false = le-ltb lace 255 le in
     rw (test, same) refl
 
+pub none_left : (lace : ℕ) (segment : List ℕ) → lace < 255 → None ≡ one_pending None (lace, segment)
+none_left lace segment lt = let test : nat_lt lace 255 ≡ true = lt-ltb lace 255 lt in rw test refl
+
 -- a list of n entries, and one more that n + 1 would not hold
 pub one_too_many : (bytes : List ℕ) (before : List Entry) (limit : ℕ) (more : List StreamItem) (item : StreamItem) → limit ≤ length before → more ≡ item ∷ [] → limit < length (items_of bytes before ++ more)
 one_too_many bytes before limit more item le e =
@@ -98,15 +102,16 @@ packet_lies end before now pending pieces mark e here lie = record {
   pending = tt;
 }
 
-pub segments_too_many : (laces bytes : List ℕ) (i at : ℕ) (mark : Option Mark) (pending : Option (List ℕ)) (before total : List StreamItem) (limit : ℕ) → i < length laces
-    → limit < length (before ++ packet_ended (cond (list_any (λ n. nat_lt n 255) (drop (i + 1) laces)) None mark) pending (get_or laces i 0, take (get_or laces i 0) (drop at bytes)))
+pub segments_too_many : (laces bytes : List ℕ) (i at : ℕ) (mark own : Option Mark) (pending : Option (List ℕ)) (before total : List StreamItem) (limit : ℕ) → i < length laces
+    → own ≡ cond (list_any (λ n. nat_lt n 255) (drop (i + 1) laces)) None mark
+    → limit < length (before ++ packet_ended own pending (get_or laces i 0, take (get_or laces i 0) (drop at bytes)))
     → before ++ packets_ended mark pending (segments (drop i laces) (drop at bytes)) ≡ total
     → limit < length total
 unfolding packets_ended
-segments_too_many laces bytes i at mark pending before total limit lt many items-is =
+segments_too_many laces bytes i at mark own pending before total limit lt own-is many items-is =
     let n = get_or laces i 0 in
     let more = segments-more laces i (drop at bytes) lt in
     let any = any-segments (drop (i + 1) laces) (drop n (drop at bytes)) in
     let step : packets_ended mark pending (segments (drop i laces) (drop at bytes))
     ≡ packet_ended (cond (list_any (λ k. nat_lt k 255) (drop (i + 1) laces)) None mark) pending (n, take n (drop at bytes)) ++ packets_ended mark (one_pending pending (n, take n (drop at bytes))) (segments (drop (i + 1) laces) (drop n (drop at bytes))) = rw (more, any) refl in
-    more_too_many before _ _ total limit (ap (λ (x : List StreamItem). before ++ x) (sym step) ∙ items-is) many
+    more_too_many before _ _ total limit (ap (λ (x : List StreamItem). before ++ x) (sym step) ∙ items-is) (rw own-is at many)

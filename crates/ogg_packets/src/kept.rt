@@ -128,6 +128,16 @@ impl KeptEntry {
         }
     }
 
+    /// A packet of one piece, without a mark. It takes no memory.
+    #[inline(always)]
+    pub fn unmarked(place: u32, len: u32) -> KeptEntry
+        ensures { result ≡ whole place len None }
+    {
+        KeptEntry {
+            packed: Packed::Whole { place, len },
+        }
+    }
+
     /// The packet of these pieces, with its mark. It takes memory only where there are several.
     pub fn packet(alloc: Global, pieces: Pieces, mark: Option<Mark>) -> Result<KeptEntry, NoMemory>
         ensures { IfOk result (λ kept. kept ≡ Entry.Packet pieces mark) }

@@ -1,8 +1,9 @@
-ghost use Rattle.std.specs.Prelude.{◌≡◌, ◌+◌, ◌<◌, ◌≤◌, ◌^◌, ℕ, List, [], ◌∷◌, ◌++◌, length, sum, take, drop, nat_lt, if◌then◌else◌, All, None, OnOk, IfOk};
+ghost use Rattle.std.specs.Prelude.{◌≡◌, ◌+◌, ◌<◌, ◌≤◌, ◌^◌, ℕ, List, [], ◌∷◌, ◌++◌, length, sum, take, drop, nat_lt, true, if◌then◌else◌, All, None, OnOk, IfOk};
+ghost use Rattle.std.specs.Bool.{OnTrue};
 ghost use Rattle.std.specs.List.{list_any};
 ghost use Rattle.model_ogg.specs.Entries.{with_segment, segments, packets_ended, packet_ended, one_pending, left_pending};
 ghost use Rattle.ogg_packets.specs.Pieces.{joined, LiesBefore};
-ghost use Rattle.ogg_packets.specs.Entries.{items_of, pending_of, PendingLiesBefore, LieBefore};
+ghost use Rattle.ogg_packets.specs.Entries.{items_of, pending_of, whole, PendingLiesBefore, LieBefore};
 
 use crate::fault::EntryFault;
 use crate::kept::KeptEntry;
@@ -84,6 +85,54 @@ fn join_segment(
     }
 }
 
+/// Adds the packet of one piece, without a mark. Nearly all begin below 2^32, and are written apart
+/// from the others, since an entry of one kind or another is made in memory and copied from there.
+#[inline(always)]
+fn add_whole(alloc: Global, entries: &mut EntryList, place: u64, len: u32) -> Result<(), EntryFault>
+    ensures limit { entries.new.limit ≡ entries.old.limit }
+    ensures ok { OnOk result (entries.new.found.items
+        ≡ entries.old.found.items ++ whole place len None ∷ []) }
+    ensures too_many { result ≡ Err EntryFault.TooMany
+        → entries.old.limit ≤ length entries.old.found.items }
+{
+    if place <= u64::from(u32::MAX) {
+        entries.add(KeptEntry::unmarked(place as u32, len))?;
+    } else {
+        let pieces = Pieces::one(alloc, Piece { place, len });
+        entries.add(KeptEntry::packet(alloc, pieces, None)?)?;
+    }
+    Ok(())
+}
+
+/// Adds the packet of one segment, without a mark.
+#[inline(always)]
+fn add_short(alloc: Global, entries: &mut EntryList, place: u64, lace: u8) -> Result<(), EntryFault>
+    requires { lace < 255 }
+    ensures limit { entries.new.limit ≡ entries.old.limit }
+    ensures entries { OnOk result ((bytes : List ℕ)
+        → items_of bytes entries.new.found.items ≡ items_of bytes entries.old.found.items
+        ++ packet_ended None None (lace, take lace (drop place bytes))) }
+    ensures lies { OnOk result ((end : ℕ) → place + lace ≤ end
+        → LieBefore end entries.old.found.items None
+        → LieBefore end entries.new.found.items None) }
+    ensures too_many { result ≡ Err EntryFault.TooMany → (bytes : List ℕ) → entries.old.limit
+        < length (items_of bytes entries.old.found.items
+        ++ packet_ended None None (lace, take lace (drop place bytes))) }
+{
+    add_whole(alloc, entries, place, u32::from(lace))?;
+    Ok(())
+}
+
+/// Whether a segment is a whole packet without a mark: no packet is open, the lacing value ends
+/// one, and one of those behind it ends another.
+#[inline(always)]
+fn is_short(pending: &Option<Pieces>, lace: u8, behind: &[u8]) -> bool
+    ensures { OnTrue result ((pending.now ≡ None) × (lace < 255)
+        × (list_any (λ n. nat_lt n 255) behind.now ≡ true)) }
+{
+    pending.is_none() && lace < 255 && any_ends(behind)
+}
+
 /// Adds the packets that end in the segments from a place on, and gives the one that stays open.
 pub fn join_segments(
     alloc: Global,
@@ -112,8 +161,12 @@ pub fn join_segments(
     let mut pending = pending;
     let mut at = place;
     for (i, lace) in laces.iter().enumerate() {
-        let packet_mark = mark_before(&laces[i + 1..], mark);
-        pending = join_segment(alloc, entries, at, *lace, packet_mark, pending)?;
+        if is_short(&pending, *lace, &laces[i + 1..]) {
+            add_short(alloc, entries, at, *lace)?;
+        } else {
+            let packet_mark = mark_before(&laces[i + 1..], mark);
+            pending = join_segment(alloc, entries, at, *lace, packet_mark, pending)?;
+        }
         at += u64::from(*lace);
     }
     Ok(pending)
