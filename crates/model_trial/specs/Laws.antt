@@ -7,9 +7,9 @@ use Rattle.model_setup.specs.SetupPacket.{setup_at, setup_of}
 use Rattle.model_synthesis.specs.ConstantsFile.{constants_of}
 use Rattle.model_writing.specs.SetupWriting.{setup_fields}
 use Rattle.model_trial.specs.MadeConstants.{made_constants, made_tables}
-use Rattle.model_trial.specs.declared.numbers.TheConstants.{MADE_SHORT, MADE_LONG}
 use Rattle.model_trial.specs.MadeSetup.{made_setup}
 use Rattle.model_trial.specs.MadeFilm.{MadeLink, made_links, ident_packet, comment_packet, setup_packet}
+use Rattle.model_trial.specs.FilmRead.{ident_read}
 
 -- The made constants are accepted, and these are their tables.
 abbrev pub MadeConstantsAreAccepted : Type 0
@@ -27,12 +27,7 @@ MadeSetupsAreRead = MadeSetupIsRead 1 × MadeSetupIsRead 2
 
 -- the header packets of a link of a made film are accepted, and say what the link has
 pub record HeadersAreAccepted (link : MadeLink) : Type 0 where
-  pub ident : ident_of (ident_packet link) ≡ Ok (record {
-    channels = link.channels;
-    rate = link.rate;
-    short = MADE_SHORT;
-    long = MADE_LONG;
-  })
+  pub ident : ident_of (ident_packet link) ≡ Ok (ident_read link)
   pub comment : comment_of comment_packet ≡ Ok 0
   pub setup : setup_of link.channels (setup_packet link) ≡ Ok (made_setup link.channels)
 

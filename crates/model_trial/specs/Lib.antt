@@ -3,4 +3,5 @@ pub mod MadeConstants
 pub mod MadeSetup
 pub mod MadeScript
 pub mod MadeFilm
+pub mod FilmRead
 pub mod Laws

@@ -1,13 +1,12 @@
 -- The made films: three links (RFC 3533, section 4), each with its header packets (Vorbis I,
 -- section 4.2) and with packets that are drawn, ten on a page.
-use Rattle.std.specs.Prelude.{◌≡◌, ℕ, ◌+◌, ◌-◌, ◌*◌, ◌/◌, ◌%◌, ◌==◌, nat_le, List, [], ◌∷◌, ◌++◌, length, map, take, drop, replicate, Option, Some, None, codes, if◌then◌else◌}
+use Rattle.std.specs.Prelude.{◌≡◌, ℕ, ◌+◌, ◌-◌, ◌*◌, ◌/◌, ◌%◌, ◌==◌, nat_le, List, [], ◌∷◌, ◌++◌, length, map, take, drop, replicate, Option, Some, None, Bool, codes, if◌then◌else◌}
 use Rattle.std.specs.Int.{w32, to_le_bytes}
 use Rattle.std.specs.List.{flat_map, range_with_len}
 use Rattle.std.specs.Option.{option_map_or}
 use Rattle.model_bits.specs.Bits.{number_of}
 use Rattle.model_bits.specs.Writing.{bits_of_fields, filled}
-use Rattle.model_ogg.specs.declared.page.PageRef.{PageRef}
-use Rattle.model_ogg.specs.Pages.{pages, laces_of, body_of}
+use Rattle.model_ogg.specs.Writing.{PageFields, written_pages}
 use Rattle.model_synthesis.specs.Overlaps.{overlap_len}
 use Rattle.model_writing.specs.SetupWriting.{setup_fields}
 use Rattle.model_trial.specs.declared.numbers.TheConstants.{MADE_PACKETS, MADE_SHORT, MADE_LONG, PACKETS_ON_PAGE}
@@ -80,34 +79,30 @@ packets_behind before (mode ∷ modes) [] = []
 packets_behind before (mode ∷ modes) (body ∷ bodies) =
     with_head before mode (next_mode modes) body ∷ packets_behind mode modes bodies
 
--- what is drawn for a link: the modes of its packets, and the packets
+-- a link with what is drawn for it: the modes of its packets, and the packets
 pub record DrawnLink : Type 0 where
+  pub link : MadeLink
   pub modes : List ℕ
   pub packets : List (List ℕ)
 
-unfoldable pub drawn_link : Draw DrawnLink
-drawn_link = do
+unfoldable pub drawn_link : MadeLink → Draw DrawnLink
+drawn_link link = do
   modes ← draws MADE_PACKETS (draw 2)
   bodies ← draws MADE_PACKETS drawn_body
-  give (record { modes = modes; packets = packets_behind 1 modes bodies })
+  give (record { link = link; modes = modes; packets = packets_behind 1 modes bodies })
+
+-- the links of the film of a number
+unfoldable pub drawn_links : ℕ → List DrawnLink
+drawn_links number = (draw_each drawn_link made_links (generator number)).0
 
 -- ---- pages
-
--- a page as it is seen in bytes
-pub record SeenPage : Type 0 where
-  pub flags : ℕ
-  pub granule : Option ℕ
-  pub serial : ℕ
-  pub sequence : ℕ
-  pub laces : List ℕ
-  pub body : List ℕ
 
 -- the lacing values of a packet (RFC 3533, section 5)
 abbrev pub packet_laces : List ℕ → List ℕ
 packet_laces packet = replicate (length packet / 255) 255 ++ length packet % 255 ∷ []
 
 -- a page of a link with whole packets
-abbrev pub page_of : MadeLink → ℕ → ℕ → ℕ → List (List ℕ) → SeenPage
+abbrev pub page_of : MadeLink → ℕ → ℕ → ℕ → List (List ℕ) → PageFields
 page_of link flags granule sequence packets = record {
   flags = flags;
   granule = Some granule;
@@ -131,50 +126,40 @@ frames_between (a ∷ b ∷ modes) =
 abbrev pub audio_pages : ℕ
 audio_pages = MADE_PACKETS / PACKETS_ON_PAGE
 
+abbrev pub is_last_page : ℕ → Bool
+is_last_page page = page + 1 == audio_pages
+
 -- the granule position of an audio page: the frames up to its end, fewer on the last page
-unfoldable pub granule_at : MadeLink → DrawnLink → ℕ → ℕ
-granule_at link drawn page =
+unfoldable pub granule_at : DrawnLink → ℕ → ℕ
+granule_at drawn page =
     frames_between (take (PACKETS_ON_PAGE * (page + 1)) drawn.modes)
-    - (if page + 1 == audio_pages then link.cut else 0)
+    - (if is_last_page page then drawn.link.cut else 0)
 
 -- the sequence number of an audio page, behind those of two pages of headers
 unfoldable pub sequence_at : MadeLink → ℕ → ℕ
 sequence_at link page =
     2 + page + option_map_or (λ lost. if nat_le lost page then 1 else 0) link.lost_before 0
 
-unfoldable pub audio_page : MadeLink → DrawnLink → ℕ → SeenPage
-audio_page link drawn page =
-    page_of link (if page + 1 == audio_pages then 4 else 0) (granule_at link drawn page)
-    (sequence_at link page) (take PACKETS_ON_PAGE (drop (PACKETS_ON_PAGE * page) drawn.packets))
+-- the packets of an audio page
+abbrev pub packets_at : DrawnLink → ℕ → List (List ℕ)
+packets_at drawn page = take PACKETS_ON_PAGE (drop (PACKETS_ON_PAGE * page) drawn.packets)
+
+unfoldable pub audio_page : DrawnLink → ℕ → PageFields
+audio_page drawn page =
+    page_of drawn.link (if is_last_page page then 4 else 0) (granule_at drawn page)
+    (sequence_at drawn.link page) (packets_at drawn page)
 
 -- the pages of a link
-unfoldable pub link_pages : MadeLink → DrawnLink → List SeenPage
-link_pages link drawn =
-    page_of link 2 0 0 (ident_packet link ∷ [])
-    ∷ page_of link 0 0 1 (comment_packet ∷ setup_packet link ∷ [])
-    ∷ map (audio_page link drawn) (range_with_len 0 audio_pages)
-
-unfoldable pub drawn_pages : MadeLink → Draw (List SeenPage)
-drawn_pages link = do
-  drawn ← drawn_link
-  give (link_pages link drawn)
+unfoldable pub link_pages : DrawnLink → List PageFields
+link_pages drawn =
+    page_of drawn.link 2 0 0 (ident_packet drawn.link ∷ [])
+    ∷ page_of drawn.link 0 0 1 (comment_packet ∷ setup_packet drawn.link ∷ [])
+    ∷ map (audio_page drawn) (range_with_len 0 audio_pages)
 
 -- the pages of the film of a number
-unfoldable pub made_pages : ℕ → List SeenPage
-made_pages number =
-    flat_map (λ pages. pages) (draw_each drawn_pages made_links (generator number)).0
+unfoldable pub made_pages : ℕ → List PageFields
+made_pages number = flat_map link_pages (drawn_links number)
 
--- a page that stands in bytes
-abbrev pub seen : List ℕ → PageRef → SeenPage
-seen bytes page = record {
-  flags = page.flags;
-  granule = page.granule;
-  serial = page.serial;
-  sequence = page.sequence;
-  laces = laces_of bytes page;
-  body = body_of bytes page;
-}
-
--- these bytes are the film of a number: the pages that are found in them are its pages
-abbrev pub IsMadeFilm : ℕ → List ℕ → Type 0
-IsMadeFilm number bytes = map (seen bytes) (pages bytes 0) ≡ made_pages number
+-- the bytes of that film
+unfoldable pub made_film : ℕ → List ℕ
+made_film number = written_pages (made_pages number)

@@ -1,0 +1,10 @@
+pub mod Lists
+pub mod Heads
+pub mod Drawn
+pub mod Places
+pub mod Blocks
+pub mod PagePackets
+pub mod Entries
+pub mod EntryCounts
+pub mod Links
+pub mod Accepted
