@@ -1,2 +1,7 @@
 pub mod Numbers
-pub mod Drawn
+pub mod DrawnLines
+pub mod Collected
+pub mod Packets
+pub mod Paging
+pub mod Tables
+pub mod FilmLinks

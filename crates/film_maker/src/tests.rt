@@ -1,4 +1,4 @@
-use crate::{Draws, make_constants, make_script};
+use crate::{Draws, make_constants, make_film, make_script};
 use std::test::Fail;
 
 /// A place of the made constants, and the number that stands there.
@@ -45,6 +45,32 @@ fn scripts(rt: HostRuntime) -> Result<(), Fail> {
         let script = make_script(rt.alloc(), number)?;
         assert_eq!(rt; script.len(), size);
         assert!(rt; script.starts_with(front.as_bytes()), "{number}");
+    }
+    Ok(())
+}
+
+/// A number, how many bytes its film has, and their sum, as another program makes that film
+/// (tools/made_inputs.py).
+const FILMS: [(u64, usize, u64); 2] = [
+    (7, 145805, 6350540400155478497),
+    (u64::MAX, 146320, 3956385359659571189),
+];
+
+/// A sum of bytes that goes by their order too.
+fn sum_of(bytes: &[u8]) -> u64 {
+    let mut sum = 0u64;
+    for byte in bytes {
+        sum = sum.wrapping_mul(257).wrapping_add(u64::from(*byte) + 1);
+    }
+    sum
+}
+
+#[test]
+fn films(rt: HostRuntime) -> Result<(), Fail> {
+    for (number, size, sum) in FILMS {
+        let film = make_film(rt.alloc(), number)?;
+        assert_eq!(rt; film.len(), size);
+        assert_eq!(rt; sum_of(&film), sum, "{number}");
     }
     Ok(())
 }

@@ -3,7 +3,7 @@ use Rattle.model_script.specs.Scripts.{script_of}
 use Rattle.model_trial.specs.declared.numbers.TheConstants.{MADE_LANES}
 use Rattle.model_trial.specs.MadeScript.{drawn_lane}
 use Rattle.model_trial.proofs.DrawnScripts.{made_scripts_are_accepted}
-use Rattle.film_maker.proofs.Drawn.{one_more, lane_text, script_drawn}
+use Rattle.film_maker.proofs.DrawnLines.{one_more, lane_text, script_drawn}
 use Rattle.film_maker.proofs.script.make_script.Goals as goal
 
 pub loop-preserved : goal.loop-preserved

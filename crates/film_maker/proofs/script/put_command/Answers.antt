@@ -2,7 +2,7 @@ use Rattle.std.proofs.Common.{◌++◌, ◌∙◌, ℕ, List, ap, sym}
 use Rattle.rand_pcg.specs.Lcg.{Lcg}
 use Rattle.model_script.specs.declared.command.Command.{Command}
 use Rattle.model_trial.specs.MadeScript.{command_line}
-use Rattle.film_maker.proofs.Drawn.{on_ok, crosses, others, cross_line}
+use Rattle.film_maker.proofs.DrawnLines.{on_ok, crosses, others, cross_line}
 use Rattle.film_maker.proofs.script.put_command.Goals as goal
 
 pub returns-then-kind-eq6-clause-written : goal.returns-then-kind-eq6-clause-written

@@ -2,7 +2,7 @@ use Rattle.std.proofs.Common.{◌∙◌, ap, List, ℕ, arith}
 use Rattle.rand_pcg.specs.Lcg.{Lcg}
 use Rattle.model_trial.specs.declared.numbers.TheConstants.{MADE_COMMANDS}
 use Rattle.model_trial.specs.MadeScript.{command_line, drawn_command}
-use Rattle.film_maker.proofs.Drawn.{one_more, commands_drawn}
+use Rattle.film_maker.proofs.DrawnLines.{one_more, commands_drawn}
 use Rattle.film_maker.proofs.script.put_commands.Goals as goal
 
 pub loop-preserved : goal.loop-preserved

@@ -1,7 +1,7 @@
 use Rattle.std.proofs.Common.{◌≡◌, ◌-◌}
 use Rattle.model_trial.specs.declared.numbers.TheConstants.{MADE_COMMANDS}
 use Rattle.model_trial.specs.MadeScript.{command_line, drawn_command}
-use Rattle.film_maker.proofs.Drawn.{whole}
+use Rattle.film_maker.proofs.DrawnLines.{whole}
 use Rattle.film_maker.proofs.script.put_commands.Given as goal
 
 abbrev pub invariant-loop : goal.invariant-loop

@@ -2,7 +2,7 @@ use Rattle.std.proofs.Common.{◌++◌, ◌∙◌, ap}
 use Rattle.rand_pcg.specs.Lcg.{Lcg}
 use Rattle.model_script.specs.declared.command.Command.{Command}
 use Rattle.model_trial.specs.MadeScript.{command_line}
-use Rattle.film_maker.proofs.Drawn.{on_ok, reads, seeks, laps}
+use Rattle.film_maker.proofs.DrawnLines.{on_ok, reads, seeks, laps}
 use Rattle.film_maker.proofs.script.put_for.Goals as goal
 
 pub returns-then-kind-lt4-clause-written : goal.returns-then-kind-lt4-clause-written

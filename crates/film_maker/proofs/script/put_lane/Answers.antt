@@ -2,7 +2,7 @@ use Rattle.std.proofs.Common.{◌++◌, ◌∙◌, ℕ, List, [], ◌∷◌, ap,
 use Rattle.std.specs.Prelude.{codes}
 use Rattle.std.specs.List.{flat_map}
 use Rattle.model_trial.specs.MadeScript.{command_line, drawn_commands}
-use Rattle.film_maker.proofs.Drawn.{on_ok, lane_is, lane_goes_on}
+use Rattle.film_maker.proofs.DrawnLines.{on_ok, lane_is, lane_goes_on}
 use Rattle.film_maker.proofs.script.put_lane.Goals as goal
 
 pub returns-clause-written : goal.returns-clause-written
