@@ -32,28 +32,41 @@ counts_of helpers slots setups = option_and_then
     (number_in slots_range slots))
     (number_in helpers_range helpers)
 
+-- the number that a word is, where it is one
+unfoldable pub number_of : List ℕ → Option ℕ
+number_of word = if is_number word then Some (value_of word) else None
+
 -- ---- commands
 
--- a command, with the names of its files
+-- a command, with the names of its files, or with the number that its inputs are made of
 pub data Command : Type 0 where
   info : List ℕ → Command
   dump : List ℕ → List ℕ → Command
   play : List ℕ → List ℕ → List ℕ → Counts → Command
+  trial : ℕ → Counts → Command
+
+-- the trial of a number word and three words of counts
+unfoldable pub trial_of : List ℕ → List ℕ → List ℕ → List ℕ → Option Command
+trial_of number helpers slots setups =
+    option_and_then (λ n. option_map (trial n) (counts_of helpers slots setups)) (number_of number)
 
 -- the command of the words after the program's name, where they are one
 abbrev pub command_of : List (List ℕ) → Option Command
 command_of (word ∷ film ∷ []) = if bytes_eq word (codes "info") then Some (info film) else None
 command_of (word ∷ constants ∷ film ∷ []) =
     if bytes_eq word (codes "dump") then Some (dump constants film) else None
+command_of (word ∷ number ∷ helpers ∷ slots ∷ setups ∷ []) =
+    if bytes_eq word (codes "trial") then trial_of number helpers slots setups else None
 command_of (word ∷ constants ∷ film ∷ script ∷ helpers ∷ slots ∷ setups ∷ []) =
     if bytes_eq word (codes "play")
     then option_map (play constants film script) (counts_of helpers slots setups)
     else None
 command_of _ = None
 
--- A play takes part in threads, and no other command does.
+-- A play and a trial play a script, and so take part in threads. No other command does.
 abbrev pub Plays : Option Command → Type 0
 Plays (Some (play constants film script counts)) = ⊤
+Plays (Some (trial number counts)) = ⊤
 Plays _ = ⊥
 
 -- the exit code of a status

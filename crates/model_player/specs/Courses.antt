@@ -11,11 +11,14 @@ use Rattle.model_script.specs.declared.command.Command as script_commands
 use Rattle.model_script.specs.declared.fault.ScriptFault.{ScriptFault}
 use Rattle.model_script.specs.Scripts.{script_of}
 use Rattle.model_report.specs.Reports.{report_of}
+use Rattle.model_trial.specs.MadeConstants.{made_tables}
+use Rattle.model_trial.specs.MadeScript.{made_lanes}
+use Rattle.model_trial.specs.FilmRead.{links_read}
 use Rattle.model_player.specs.declared.limits.TheConstants.{CONSTANTS_LIMIT, FILM_LIMIT, SCRIPT_LIMIT}
 use Rattle.model_player.specs.declared.status.Status.{Status}
 use Rattle.model_player.specs.declared.status.Status.TheVariants as statuses
-use Rattle.model_player.specs.Commands.{Command, info, dump, play}
-use Rattle.model_player.specs.Texts.{usage_line, constants_fault_line, fault_line, script_fault_line, info_text}
+use Rattle.model_player.specs.Commands.{Command, info, dump, play, trial}
+use Rattle.model_player.specs.Texts.{usage_line, constants_fault_line, fault_line, script_fault_line, info_text, trial_text}
 
 -- how an output is written: by one put, or by several, one part after the other
 pub data Puts : Type 0 where
@@ -62,7 +65,11 @@ reads_script name next =
 
 -- ---- commands
 
--- of words that are no command, and of each command
+-- the report of the made script of a number over its made film, by the made constants
+unfoldable pub made_report : ℕ → List ℕ
+made_report number = concat (report_of made_tables (links_read number) (made_lanes number))
+
+-- of words that are no command, and of each command; a trial reads no file
 abbrev pub course_of : Option Command → Course
 course_of None = comes_to (refuses statuses.Usage usage_line)
 course_of (Some (info film)) =
@@ -72,3 +79,5 @@ course_of (Some (dump constants film)) = reads_constants constants (λ tables.
 course_of (Some (play constants film script counts)) = reads_constants constants (λ tables.
     reads_film film (λ links. reads_script script (λ lanes.
     comes_to (writes in_parts (concat (report_of tables links lanes))))))
+course_of (Some (trial number counts)) =
+    comes_to (writes at_once (trial_text (links_read number) (made_report number)))

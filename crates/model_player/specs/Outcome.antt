@@ -161,14 +161,14 @@ pub record Runs (command : Option Command) (shelf : ShelfRun) (out notes : SinkR
 
 -- ---- without threads
 
--- What is promised of a run without threads: the same, and that the command is no play.
+-- What is promised of a run without threads: the same, and that the command plays no script.
 pub record RunsAlone (command : Option Command) (shelf : ShelfRun) (out notes : SinkRun)
     (status : Status) : Type 0 where
   pub alone : ¬ Plays command
   pub runs : Runs command shelf out notes status
 
--- A play was left to a run with threads, and nothing was used for it: the shelf and the sinks, each
--- before and after, are what they were.
+-- A play or a trial was left to a run with threads, and nothing was used for it: the shelf and the
+-- sinks, each before and after, are what they were.
 pub record IsLeft {F K N : Type 0} (command : Option Command) (shelf : F × F) (out : K × K)
     (notes : N × N) : Type 0 where
   pub play : Plays command

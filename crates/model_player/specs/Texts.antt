@@ -1,18 +1,18 @@
 -- The lines that the program writes.
-use Rattle.std.specs.Prelude.{ℕ, List, [], ◌∷◌, ◌++◌, codes}
+use Rattle.std.specs.Prelude.{ℕ, ◌+◌, ◌*◌, ◌%◌, ◌^◌, List, [], ◌∷◌, ◌++◌, length, codes}
 use Rattle.std.specs.Fmt.{decimal}
-use Rattle.std.specs.List.{flat_map, enumerate_from}
+use Rattle.std.specs.List.{flat_map, enumerate_from, fold}
 use Rattle.model_synthesis.specs.declared.constants.ConstantsFault.{ConstantsFault}
 use Rattle.model_synthesis.specs.ConstantsTexts.{constants_fault_text}
 use Rattle.model_line.specs.declared.film.LinkCounts.{LinkCounts}
 use Rattle.model_line.specs.declared.film.FilmFault.{FilmFault}
 use Rattle.model_line.specs.declared.item.LinkFacts.{LinkFacts}
-use Rattle.model_line.specs.Decode.{frame_count}
+use Rattle.model_line.specs.Decode.{frame_count, gap_count}
 use Rattle.model_line.specs.Origins.{line_origins}
 use Rattle.model_line.specs.Index.{facts_of}
 use Rattle.model_line.specs.FaultTexts.{fault_text}
 use Rattle.model_line.specs.Acceptance.{FilmLink}
-use Rattle.model_line.specs.PacketRows.{rows_of, sized_links}
+use Rattle.model_line.specs.PacketRows.{rows_of, sized_links, block_packets}
 use Rattle.model_script.specs.declared.fault.ScriptFault.{ScriptFault}
 use Rattle.model_script.specs.Texts as scripts
 
@@ -65,6 +65,39 @@ total_line total = codes "total " ++ (decimal total ++ line_end)
 abbrev pub info_text : List FilmLink → List ℕ
 info_text links = flat_map link_lines (enumerate_from 0 links)
     ++ total_line (frame_count (line_origins (sized_links links)))
+
+-- ---- trials
+
+-- the sum of some bytes and of one more
+abbrev pub sum_with : ℕ → ℕ → ℕ
+sum_with sum byte = (257 * sum + byte + 1) % 2 ^ 64
+
+-- the sum of the bytes of a report, which depends on their order
+unfoldable pub report_sum : List ℕ → ℕ
+report_sum bytes = fold sum_with 0 bytes
+
+-- how many links, blocks, frames and gaps a film has
+abbrev pub film_counts_line : ℕ → ℕ → ℕ → ℕ → List ℕ
+film_counts_line links blocks frames gaps = codes "links "
+    ++ (decimal links
+    ++ (codes " blocks "
+    ++ (decimal blocks
+    ++ (codes " frames "
+    ++ (decimal frames ++ (codes " gaps " ++ (decimal gaps ++ line_end)))))))
+
+-- how many bytes a report has, and their sum
+abbrev pub report_line : ℕ → ℕ → List ℕ
+report_line size sum =
+    codes "report " ++ (decimal size ++ (codes " sum " ++ (decimal sum ++ line_end)))
+
+-- what `trial` writes, by the links of its film and its report
+unfoldable pub trial_text : List FilmLink → List ℕ → List ℕ
+trial_text links report =
+    film_counts_line (length links) (length (block_packets links))
+    (frame_count (line_origins (sized_links links))) (gap_count (line_origins (sized_links links)))
+    ++ report_line (length report) (report_sum report)
+
+-- ---- refusals
 
 -- words that are no command
 abbrev pub usage_line : List ℕ

@@ -15,3 +15,5 @@ mod refusals;
 mod scripts;
 #[cfg(test)]
 mod session;
+#[cfg(test)]
+mod trials;

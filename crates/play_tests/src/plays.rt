@@ -292,9 +292,9 @@ fn puts_that_fail(rt: HostRuntime) -> Result<(), Fail> {
     Ok(())
 }
 
-/// What a run alone answers to a play over a shelf without files, and what is on the notes then.
-fn left_to_threads(alloc: Global) -> Result<(Option<Status>, usize), Fail> {
-    let words = words_of(alloc, &WORDS)?;
+/// What a run alone answers to words over a shelf without files, and what is on the notes then.
+fn left_to_threads(alloc: Global, words: &[&str]) -> Result<(Option<Status>, usize), Fail> {
+    let words = words_of(alloc, words)?;
     let mut shelf = MemShelf::new(alloc, Vec::new(alloc), Vec::new(alloc));
     let mut out = MemSink::new(alloc, Vec::new(alloc));
     let mut notes = MemSink::new(alloc, Vec::new(alloc));
@@ -303,7 +303,9 @@ fn left_to_threads(alloc: Global) -> Result<(Option<Status>, usize), Fail> {
 }
 
 #[test]
-fn a_play_is_left_to_threads(rt: HostRuntime) -> Result<(), Fail> {
-    assert_eq!(rt; left_to_threads(rt.alloc())?, (None, 0));
+fn plays_and_trials_are_left_to_threads(rt: HostRuntime) -> Result<(), Fail> {
+    let trial = ["trial", "7", "0", "1", "1"];
+    assert_eq!(rt; left_to_threads(rt.alloc(), &WORDS)?, (None, 0));
+    assert_eq!(rt; left_to_threads(rt.alloc(), &trial)?, (None, 0));
     Ok(())
 }

@@ -1,12 +1,13 @@
 -- Where nothing fails, the duty was done.
 use Rattle.std.proofs.Common.{◌≡◌, ◌≢◌, ℕ, ◌≤◌, ◌<◌, List, length, Option, Some, None, Result, Ok, Err, refl, sym, ap, subst, ◌∙◌, inl, inr, arith}
 use Rattle.vf_outside.specs.Told.{Told, MayBeTooLong}
+use Rattle.model_player.specs.declared.counts.Counts.{Counts}
 use Rattle.model_player.specs.declared.status.Status.{Status}
 use Rattle.model_player.specs.declared.status.Status.TheVariants as statuses
 use Rattle.model_line.specs.Acceptance.{film_of}
 use Rattle.model_synthesis.specs.ConstantsFile.{constants_of}
 use Rattle.model_script.specs.Scripts.{script_of}
-use Rattle.model_player.specs.Commands.{Command, info, dump, play}
+use Rattle.model_player.specs.Commands.{Command, info, dump, play, trial}
 use Rattle.model_player.specs.Courses.{Duty, writes, refuses, Course, comes_to, reads, judged, constants_refusal, film_refusal, script_refusal, course_of}
 use Rattle.model_player.specs.Outcome.{ShelfRun, SinkRun, MayHave, MayComeTo, MustComeTo, Does, Outcome, Completes, Runs}
 
@@ -79,6 +80,7 @@ command_never (dump constants film) = λ bytes. judged_never (constants_of bytes
 command_never (play constants film script counts) = λ bytes. judged_never (constants_of bytes) constants_refusal _ (λ fault line e. cc)
     (λ tables film_bytes. judged_never (film_of film_bytes) film_refusal _ (λ fault line e. cc)
     (λ links script_bytes. judged_never (script_of script_bytes) script_refusal _ (λ fault line e. cc) (λ lanes line e. cc)))
+command_never (trial number counts) = λ line e. cc
 
 usage : (command : Option Command) (shelf : ShelfRun) (out notes : SinkRun) (status : Status) → Outcome (course_of command) shelf out notes status → status ≡ statuses.Usage → command ≡ None
 usage None shelf out notes status o e = refl
@@ -92,3 +94,7 @@ runs command shelf out notes status o = record {
   completes = complete (course_of command) shelf out notes status o;
   usage = usage command shelf out notes status o;
 }
+
+-- a trial reads no file, so that its outcome is that over any run of a shelf
+pub runs_trial : (number : ℕ) (counts : Counts) (shelf : ShelfRun) (out notes : SinkRun) (status : Status) → ((run : ShelfRun) → Outcome (course_of (Some (trial number counts))) run out notes status) → Runs (Some (trial number counts)) shelf out notes status
+runs_trial number counts shelf out notes status o = runs (Some (trial number counts)) shelf out notes status (o shelf)

@@ -1,9 +1,13 @@
--- The counts of a play, by its three words.
-use Rattle.std.proofs.Common.{◌≡◌, ℕ, ◌<◌, ◌≤◌, Bool, true, false, ◌&&◌, List, Some, None, refl, sym, ap, arith}
-use Rattle.std.specs.Prelude.{nat_le, if◌then◌else◌}
+-- The counts of a play, by its three words, and the number of a trial.
+use Rattle.std.proofs.Common.{◌≡◌, ℕ, ◌<◌, ◌≤◌, Bool, true, false, ◌&&◌, List, Some, None, Result, Ok, Err, refl, sym, ap, arith}
+use Rattle.std.specs.Prelude.{nat_le, if◌then◌else◌, MatchResult}
+use Rattle.std.specs.Result.{result_ok}
 use Rattle.std.proofs.lemmas.Bool.Decides.{nat_tests}
 use Rattle.model_script.specs.Lines.{is_number, value_of}
-use Rattle.model_player.specs.Commands.{helpers_range, slots_range, setups_range, number_in, counts_of}
+use Rattle.model_script.specs.declared.fault.LineCause.{LineCause}
+use Rattle.model_script.specs.declared.fault.LineCause.TheVariants as causes
+use Rattle.model_player.specs.declared.counts.Counts.{Counts}
+use Rattle.model_player.specs.Commands.{helpers_range, slots_range, setups_range, number_in, number_of, counts_of, trial, trial_of}
 
 -- ---- one number
 
@@ -67,3 +71,31 @@ module _ (helpers slots setups : List ℕ) where
   all_counts h s u a b e = rw (a, b, e) refl
 
 pub ruleset counts_laws = (no_helpers, no_slots, no_setups, all_counts)
+
+-- ---- trials
+
+told_some : (b : Bool) (value n : ℕ) → b ≡ true → n ≡ value → Some n ≡ (if b then Some value else None)
+told_some b value n p e = rw p (ap Some e)
+
+told_none : (b : Bool) (value : ℕ) → b ≡ false → None ≡ (if b then Some value else None)
+told_none b value p = rw p refl
+
+pub number_told : (word : List ℕ) (r : Result ℕ LineCause) → MatchResult r (λ n. (is_number word ≡ true) × (n ≡ value_of word)) (λ cause. (is_number word ≡ false) × (cause ≡ causes.Number)) → result_ok r ≡ number_of word
+unfolding number_of
+number_told word (Ok n) told = told_some (is_number word) (value_of word) n told.0 told.1
+number_told word (Err cause) told = told_none (is_number word) (value_of word) told.0
+
+module _ (number helpers slots setups : List ℕ) where
+  pub no_trial_number : number_of number ≡ None → trial_of number helpers slots setups ≡ None
+  unfolding trial_of
+  no_trial_number e = rw e refl
+
+  pub no_trial_counts : (n : ℕ) → number_of number ≡ Some n → counts_of helpers slots setups ≡ None → trial_of number helpers slots setups ≡ None
+  unfolding trial_of
+  no_trial_counts n a e = rw (a, e) refl
+
+  pub whole_trial : (n : ℕ) (counts : Counts) → number_of number ≡ Some n → counts_of helpers slots setups ≡ Some counts → trial_of number helpers slots setups ≡ Some (trial n counts)
+  unfolding trial_of
+  whole_trial n counts a e = rw (a, e) refl
+
+pub ruleset trial_laws = (no_trial_number, no_trial_counts, whole_trial)

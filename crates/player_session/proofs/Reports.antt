@@ -28,7 +28,7 @@ report_some tables links lanes = texts_some _ 0 lanes
 
 -- ---- the first texts, the next, and those behind it
 
-concat_next : (texts : List (List ℕ)) (i : ℕ) (text : List ℕ) → i < length texts → text ≡ get_or texts i text → concat (take (suc i) texts) ≡ concat (take i texts) ++ text
+pub concat_next : (texts : List (List ℕ)) (i : ℕ) (text : List ℕ) → i < length texts → text ≡ get_or texts i text → concat (take (suc i) texts) ≡ concat (take i texts) ++ text
 concat_next [] i text lt e = absurd (omega arith)
 concat_next (t ∷ texts) zero text lt e = append-nil t ∙ sym e
 concat_next (t ∷ texts) (suc i) text lt e = ap (λ (xs : List ℕ). t ++ xs) (concat_next texts i text (omega arith) e) ∙ sym (append_assoc t (concat (take i texts)) text)

@@ -14,3 +14,4 @@ abbrev pub command_named : Command → commands.Command
 command_named (variants.Info film) = commands.info film.now
 command_named (variants.Dump constants film) = commands.dump constants.now film.now
 command_named (variants.Play play) = play_named play
+command_named (variants.Trial number counts) = commands.trial number counts

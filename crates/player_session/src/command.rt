@@ -1,16 +1,18 @@
 ghost use Rattle.std.specs.Prelude.{◌≡◌, map, string_bytes, option_map};
 ghost use Rattle.model_script.specs.Lines.{Range};
-ghost use Rattle.model_player.specs.Commands.{number_in, counts_of, command_of};
+ghost use Rattle.model_player.specs.Commands.{number_in, number_of, counts_of, trial_of, command_of};
 ghost use Rattle.player_session.specs.Words.{command_named};
 
 use model_player::{Counts, LEAST_SETUPS, LEAST_SLOTS, MOST_HELPERS, MOST_SETUPS, MOST_SLOTS};
 use player_script::number;
 
-/// A command, with the names of its files.
+/// A command, with the names of its files, or with the number that its inputs are made of.
+#[derive(Clone, Copy)]
 pub enum Command<'a> {
     Info { film: &'a str },
     Dump { constants: &'a str, film: &'a str },
     Play(Play<'a>),
+    Trial { number: u64, counts: Counts },
 }
 
 /// A script that is played over a film: the names of the files, and the counts.
@@ -46,6 +48,24 @@ fn counts_of(helpers: &str, slots: &str, setups: &str) -> Option<Counts>
     })
 }
 
+/// The number that a word is, where it is one.
+fn number_of(word: &str) -> Option<u64>
+    ensures { result ≡ number_of word.now }
+{
+    number(word.as_bytes()).ok()
+}
+
+/// The trial of a number word and of three words of counts.
+#[tactic(auto, using(crate::proofs::Counts::trial_laws))]
+fn trial_of<'a>(number: &str, helpers: &str, slots: &str, setups: &str) -> Option<Command<'a>>
+    ensures { option_map command_named result
+        ≡ trial_of number.now helpers.now slots.now setups.now }
+{
+    let number = number_of(number)?;
+    let counts = counts_of(helpers, slots, setups)?;
+    Some(Command::Trial { number, counts })
+}
+
 /// The command that words ask for.
 pub fn command_of(words: &[String]) -> Option<Command<'_>>
     ensures { option_map command_named result ≡ command_of (map string_bytes words.now) }
@@ -58,6 +78,12 @@ pub fn command_of(words: &[String]) -> Option<Command<'_>>
             constants: constants.as_str(),
             film: film.as_str(),
         }),
+        [word, number, helpers, slots, setups] if word.as_str() == "trial" => trial_of(
+            number.as_str(),
+            helpers.as_str(),
+            slots.as_str(),
+            setups.as_str(),
+        ),
         [word, constants, film, script, helpers, slots, setups] if word.as_str() == "play" => {
             let counts = counts_of(helpers.as_str(), slots.as_str(), setups.as_str())?;
             Some(Command::Play(Play {

@@ -9,12 +9,13 @@ ghost use Rattle.player_session.specs.Steps.{Writes};
 
 use crate::files::read_film;
 use crate::notes::write_memory;
+use crate::output::write_at_once;
 use crate::stops::write_stop;
 use crate::texts::info_text;
 use film_blocks::Film;
 use model_player::Status;
 use std::alloc::Global;
-use vf_outside::{PutFault, Shelf, Sink};
+use vf_outside::{Shelf, Sink};
 
 /// Writes what is said of a film.
 #[tactic(auto, using(crate::proofs::Puts::put_laws))]
@@ -25,16 +26,9 @@ fn write_info<K: Sink, N: Sink>(alloc: Global, out: &mut K, notes: &mut N, film:
         (sink_run N.written N.faults notes.old notes.new)
         result }
 {
-    let Ok(text) = info_text(alloc, film) else {
-        return write_memory(notes);
-    };
-    if text.is_empty() {
-        return Status::Ok;
-    }
-    match out.put(text.as_bytes()) {
-        Ok(()) => Status::Ok,
-        Err(PutFault::Failed) => Status::Output,
-        Err(PutFault::Memory) => write_memory(notes),
+    match info_text(alloc, film) {
+        Ok(text) => write_at_once(text.as_bytes(), out, notes),
+        Err(_) => write_memory(notes),
     }
 }
 

@@ -6,10 +6,13 @@ mod dump;
 mod files;
 mod info;
 mod notes;
+mod output;
 mod play;
 mod stops;
 mod texts;
 mod top;
+mod trial;
+mod trial_texts;
 
 pub use model_line::{FilmFault, LinkCounts, LinkFacts, MOST_CHANNELS, MOST_ENTRIES};
 pub use model_player::{CONSTANTS_LIMIT, FILM_LIMIT, SCRIPT_LIMIT, Status};

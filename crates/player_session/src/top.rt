@@ -7,13 +7,14 @@ use crate::dump::dump;
 use crate::info::info;
 use crate::notes::write_note;
 use crate::play::play;
+use crate::trial::trial;
 use model_player::Status;
 use std::alloc::Global;
 use vf_outside::{Gate, Shelf, Sink};
 
 /// Runs a command that takes no part in threads. It always returns, and where it answers a status,
-/// what that promises is what `player` promises. It answers None to `play`, which takes part in
-/// threads, and then uses none of its other arguments.
+/// what that promises is what `player` promises. It answers None to `play` and `trial`, which take
+/// part in threads, and then uses none of its other arguments.
 pub fn player_alone<F: Shelf, K: Sink, N: Sink>(
     alloc: Global,
     words: &[String],
@@ -34,7 +35,7 @@ pub fn player_alone<F: Shelf, K: Sink, N: Sink>(
         Some(Command::Dump { constants, film }) => {
             dump(alloc, constants, film, shelf, out, notes)
         }
-        Some(Command::Play(_)) => return None,
+        Some(Command::Play(_) | Command::Trial { .. }) => return None,
         None => write_note(notes, b"usage\n", Status::Usage),
     };
     Some(status)
@@ -42,7 +43,7 @@ pub fn player_alone<F: Shelf, K: Sink, N: Sink>(
 
 /// Does all that the program does: runs the command of the words after the program's name over the
 /// files of a shelf, writes its output to `out`, and the line of a refusal to `notes`. The gate is
-/// for `play`.
+/// for `play` and `trial`.
 ///
 /// What it promises stands in `Runs`: each status has its cause, and the sinks hold what goes with
 /// it; where the film's bytes are told and no count of faults rose, the command's duty was done, or
@@ -66,6 +67,7 @@ pub fn player<F: Shelf, K: Sink, N: Sink, G: Gate>(
     }
     match command_of(words) {
         Some(Command::Play(named)) => play(alloc, named, shelf, out, notes, gate),
+        Some(Command::Trial { number, counts }) => trial(alloc, number, counts, out, notes, gate),
         _ => unreachable!(),
     }
 }
