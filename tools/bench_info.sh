@@ -3,8 +3,9 @@
 #
 #     tools/bench_info.sh
 #
-# Prints the median of five runs of each, which take turns, their ratio, and the most memory that a run took. It fails where
-# a run does not end with status 0.
+# Prints the median of five runs of each, which take turns, their ratio, and the most memory that a run took. Both run as
+# `player` runs the program, with large pages. It fails where a run does not end with status 0.
+# ROUNDS is how many runs to take in place of five.
 # PLAYER is the program (default: the one that `player` at the repository's root runs).
 # FILM is a film to take in place of the one that is made.
 # Writes only below a folder of its own in the place for temporary files, and removes it.
@@ -23,14 +24,15 @@ if [ -z "$film" ]; then
     noise_film "$film" 1 2 44100 3600 0
 fi
 
-PYTHONPATH=$root/tools python3 -B - "$player" "$film" <<'PYTHON'
+large_pages
+PYTHONPATH=$root/tools python3 -B - "$player" "$film" "${ROUNDS:-5}" <<'PYTHON'
 import os
 import sys
 
 from in_turns import in_turns
 
-player, film = sys.argv[1:]
+player, film, rounds = sys.argv[1:]
 print(f"film: {os.path.getsize(film):,} bytes")
-medians, _ = in_turns({"info": [player, "info", film], "ogginfo": ["ogginfo", film]})
+medians, _ = in_turns({"info": [player, "info", film], "ogginfo": ["ogginfo", film]}, int(rounds))
 print(f"info / ogginfo: {medians['info'] / medians['ogginfo']:.2f}")
 PYTHON

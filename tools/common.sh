@@ -56,3 +56,10 @@ sum_of() {
 told() {
     sed -n "s/^$1 //p" "$root/dist/PROVED" 2>/dev/null || true
 }
+
+# large_pages: programs that are started from here on take memory in large pages, where the system has them. Then an hour's
+# film takes a hundredth of the page faults. All of it comes from one heap, since what is mapped apart begins and ends amid a
+# large page. What the user asks of the C library stands behind this, and so counts.
+large_pages() {
+    export GLIBC_TUNABLES=glibc.malloc.hugetlb=1:glibc.malloc.mmap_threshold=4294967296${GLIBC_TUNABLES:+:$GLIBC_TUNABLES}
+}
