@@ -29,16 +29,17 @@ pub draws_all : {A : Type 0} (P : A → Type 0) (m : Draw A) → ((g : Lcg) → 
 draws_all P m holds zero g = tt
 draws_all P m holds (suc n) g = (holds g, draws_all P m holds n (m g).1)
 
+-- a number that is drawn below another
+pub drawn_below : (n : ℕ) (g : Lcg) → zero < n → (draw n g).0 < n
+unfolding draw
+drawn_below n g some = mod-lt (pcg32 g).0 some
+
 -- ---- commands
 
 -- a command as a script may have it, which asks for few frames
 record IsModest (command : Command) : Type 0 where
   right : IsRight command
   few : frames_of_command command ≤ 2000
-
-drawn_below : (n : ℕ) (g : Lcg) → zero < n → (draw n g).0 < n
-unfolding draw
-drawn_below n g some = mod-lt (pcg32 g).0 some
 
 modest_read : (cursor : ℕ) → cursor < 2 → (g : Lcg) → IsModest (drawn_read cursor g).0
 unfolding drawn_read

@@ -29,7 +29,7 @@ use Rattle.model_trial_film.specs.Laws.{IsDrawn, MadeFilmsAreAccepted}
 use Rattle.model_trial_film.proofs.Lists.{all_weaker}
 use Rattle.model_trial_film.proofs.Drawn.{made_links_are_drawn}
 use Rattle.model_trial_film.proofs.Places.{made_pages_have_places}
-use Rattle.model_trial_film.proofs.Blocks.{packet_count}
+use Rattle.model_trial_film.proofs.Blocks.{drawn_packet_count}
 use Rattle.model_trial_film.proofs.Entries.{link_items, link_entries}
 use Rattle.model_trial_film.proofs.EntryCounts.{LosesAudio, made_links-lose_audio, item_count, counts_are}
 use Rattle.model_trial_film.proofs.Links.{Run, IsRun, pages_of, runs_of, BeginsVorbis, IsChained, chained, numbers_of, film_links-runs, pages_of_numbers}
@@ -135,4 +135,4 @@ made_films_are_accepted number =
     let links = drawn_links number in
     let are = made_links_are_drawn number in
     let found = pages_read_back_law (made_pages number) (made_pages_have_places number) in
-    film_is_read (made_film number) links found are.made (all_weaker IsDrawn HasPackets packet_count links (recursion_from_All IsDrawn links are.drawn))
+    film_is_read (made_film number) links found are.made (all_weaker IsDrawn HasPackets drawn_packet_count links (recursion_from_All IsDrawn links are.drawn))

@@ -48,8 +48,8 @@ pub drawn_are_blocks : (drawn : DrawnLink) → IsDrawn drawn → AreBlocks drawn
 drawn_are_blocks drawn is =
     all_before_map IsBlock (head_of made_flags) drawn.packets (subst (AllByRecursion IsBlock) (sym is.heads) (are_blocks 1 drawn.modes))
 
-pub packet_count : (drawn : DrawnLink) → IsDrawn drawn → length drawn.packets ≡ MADE_PACKETS
-packet_count drawn is =
+pub drawn_packet_count : (drawn : DrawnLink) → IsDrawn drawn → length drawn.packets ≡ MADE_PACKETS
+drawn_packet_count drawn is =
     sym (length-map drawn.packets (head_of made_flags)) ∙ ap (λ (hs : List PacketHead). length hs) is.heads ∙ length-heads_behind 1 drawn.modes ∙ is.count
 
 -- ---- entries
@@ -98,7 +98,7 @@ module _ (number : ℕ) (drawn : DrawnLink) (is : IsDrawn drawn) where
 
   pub link_blocks : length (link_block_packets number (link_read drawn)) ≡ MADE_PACKETS
   unfolding link_block_packets link_read audio_entries
-  link_blocks = pages_blocks 0 audio_pages ∙ omega (arith, packet_count drawn is)
+  link_blocks = pages_blocks 0 audio_pages ∙ omega (arith, drawn_packet_count drawn is)
 
 all_blocks : (number : ℕ) (links : List DrawnLink) → AllByRecursion IsDrawn links → length (block_packets_from number (map link_read links)) ≡ length links * MADE_PACKETS
 unfolding block_packets_from

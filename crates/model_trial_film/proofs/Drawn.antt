@@ -3,15 +3,13 @@
 use Rattle.std.proofs.Common.{◌≡◌, ℕ, zero, ◌+◌, ◌*◌, ◌/◌, ◌<◌, List, [], ◌∷◌, length, map, refl, ap, ◌∙◌, arith, lit<}
 use Rattle.std.specs.Prelude.{◌==◌}
 use Rattle.std.specs.List.{AllByRecursion}
-use Rattle.std.proofs.Math.Nat.{mod-lt}
 use Rattle.std.proofs.lemmas.Bool.{cond_both}
 use Rattle.std.proofs.lemmas.List.Elements.{All-from_recursion, All-cons, All-tail}
 use Rattle.rand_pcg.specs.Lcg.{Lcg}
-use Rattle.rand_pcg.specs.Pcg.{pcg32}
 use Rattle.model_trial.specs.declared.numbers.TheConstants.{MADE_PACKETS}
 use Rattle.model_trial.specs.Draws.{Draw, draw, draws, draw_each, generator}
 use Rattle.model_trial.specs.MadeFilm.{MadeLink, DrawnLink, made_links, drawn_body, headed, next_mode, with_head, packets_behind, drawn_link, drawn_links}
-use Rattle.model_trial.proofs.DrawnScripts.{draws_length, draws_all}
+use Rattle.model_trial.proofs.DrawnScripts.{draws_length, draws_all, drawn_below}
 use Rattle.model_trial_film.specs.Laws.{IsDrawnPacket, IsDrawn, MadeLinksAreDrawn}
 use Rattle.model_trial_film.proofs.Heads.{next_mode_below, heads_of_made}
 
@@ -26,22 +24,18 @@ draw_each_map f m same [] g = refl
 draw_each_map {X} f m same (x ∷ xs) g =
     ap (λ (y : X). y ∷ map f (draw_each m xs (m x g).1).0) (same x g) ∙ ap (λ (ys : List X). x ∷ ys) (draw_each_map f m same xs (m x g).1)
 
-pub draw_below : (n : ℕ) (g : Lcg) → zero < n → (draw n g).0 < n
-unfolding draw
-draw_below n g some = mod-lt (pcg32 g).0 some
-
 -- ---- the bytes of a packet
 
 pub is_drawn_body : (g : Lcg) → IsDrawnPacket (drawn_body g).0
 unfolding drawn_body
 is_drawn_body g =
     let more = draw 60 g in
-    let few = draw_below 60 g (lit< tt) in
+    let few = drawn_below 60 g (lit< tt) in
     let size = draws_length (draw 256) (4 + more.0) more.1 in
     record {
       least = omega (arith, size);
       most = omega (arith, size, few);
-      bytes = All-from_recursion (λ byte. byte < 256) (draws (4 + more.0) (draw 256) more.1).0 (draws_all (λ byte. byte < 256) (draw 256) (λ h. draw_below 256 h (lit< tt)) (4 + more.0) more.1);
+      bytes = All-from_recursion (λ byte. byte < 256) (draws (4 + more.0) (draw 256) more.1).0 (draws_all (λ byte. byte < 256) (draw 256) (λ h. drawn_below 256 h (lit< tt)) (4 + more.0) more.1);
     }
 
 pub headed_below : (before mode after byte : ℕ) → before < 2 → after < 2 → byte < 256 → headed before mode after byte < 256
@@ -81,7 +75,7 @@ parts : (n : ℕ) (g h : Lcg) → AreParts n (draws n (draw 2) g).0 (draws n dra
 parts n g h = record {
   count = draws_length (draw 2) n g;
   same = draws_length drawn_body n h;
-  small = draws_all (λ mode. mode < 2) (draw 2) (λ k. draw_below 2 k (lit< tt)) n g;
+  small = draws_all (λ mode. mode < 2) (draw 2) (λ k. drawn_below 2 k (lit< tt)) n g;
   drawn = draws_all IsDrawnPacket drawn_body is_drawn_body n h;
 }
 

@@ -215,7 +215,7 @@ const LIMITS: [(&str, (&str, &str, u32, &str), Option<(Which, u32)>); 6] = [
         Some((Which::Frames, 67)),
     ),
     (
-        "out of range before too many frames",
+        "too many frames, a seek among the reads",
         (
             "lane\n",
             "read 0 65536\n",

@@ -9,9 +9,7 @@ use Rattle.std.proofs.lemmas.List.Sums.{sum_by-le}
 use Rattle.std.proofs.lemmas.List.Concat.{length-flat_map}
 use Rattle.std.proofs.lemmas.List.Elements.{All-from_recursion}
 use Rattle.std.proofs.lemmas.Fmt.{length-decimal-le}
-use Rattle.std.proofs.Math.Nat.{mod-lt}
 use Rattle.rand_pcg.specs.Lcg.{Lcg}
-use Rattle.rand_pcg.specs.Pcg.{pcg32}
 use Rattle.model_ogg.specs.Writing.{PageFields, written_page, written_pages}
 use Rattle.model_script.specs.declared.command.Command.{Command}
 use Rattle.model_script.specs.declared.command.Command.TheVariants as commands
@@ -21,7 +19,7 @@ use Rattle.model_trial.specs.declared.numbers.TheConstants.{MADE_LANES, MADE_COM
 use Rattle.model_trial.specs.Draws.{Draw, draw, draws, draw_each, generator, give}
 use Rattle.model_trial.specs.MadeScript.{ended_line, lane_lines, script_lines, drawn_read, drawn_seek, drawn_lap, drawn_for, drawn_of_cursor, drawn_by, drawn_command, drawn_commands, drawn_lane, drawn_lanes, made_lanes, made_script}
 use Rattle.model_trial.specs.MadeFilm.{MadeLink, made_links, ident_packet, comment_packet, setup_packet, drawn_body, with_head, next_mode, packets_behind, DrawnLink, drawn_link, drawn_links, packet_laces, page_of, packets_at, audio_page, audio_pages, link_pages, made_pages, made_film}
-use Rattle.model_trial.proofs.DrawnScripts.{draws_length, draws_all}
+use Rattle.model_trial.proofs.DrawnScripts.{draws_length, draws_all, drawn_below}
 
 -- ---- lists of lists
 
@@ -54,10 +52,6 @@ few_taken : {A : Type 0} (n : ℕ) (xs : List A) → length (take n xs) ≤ n
 few_taken zero xs = omega arith
 few_taken (suc n) [] = omega arith
 few_taken (suc n) (_ ∷ xs) = omega (arith, few_taken n xs)
-
-drawn_below : (n : ℕ) (g : Lcg) → zero < n → (draw n g).0 < n
-unfolding draw
-drawn_below n g some = mod-lt (pcg32 g).0 some
 
 -- ---- scripts
 
