@@ -1,5 +1,5 @@
 -- What entries of pieces stand for in the bytes of a file.
-use Rattle.std.specs.Prelude.{ℕ, nat_le, if◌then◌else◌, Bool, true, false, List, [], ◌∷◌, length, map, All, Option, Some, None, option_map, Result, Ok, Err}
+use Rattle.std.specs.Prelude.{ℕ, nat_le, if◌then◌else◌, Bool, true, false, List, [], ◌∷◌, length, map, take, All, Option, Some, None, option_map, Result, Ok, Err}
 use Rattle.model_ogg.specs.declared.page.Mark.{Mark}
 use Rattle.model_ogg.specs.Entries.{StreamItem, packet, lost}
 use Rattle.ogg_packets.specs.declared.entry.Entry.{Entry}
@@ -32,6 +32,11 @@ mark_in Lost = None
 abbrev pub packet_in : List ℕ → Entry → Option (List ℕ)
 packet_in bytes (Packet pieces mark) = Some (joined bytes pieces)
 packet_in bytes Lost = None
+
+-- the front of a packet: its first two bytes, as far as it has them, which its head goes by
+-- (Vorbis I, section 4.3.1)
+abbrev pub front_in : List ℕ → Entry → Option (List ℕ)
+front_in bytes entry = option_map (take 2) (packet_in bytes entry)
 
 -- the packet of one piece
 abbrev pub whole : ℕ → ℕ → Option Mark → Entry

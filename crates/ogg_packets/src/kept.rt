@@ -1,10 +1,11 @@
-ghost use Rattle.std.specs.Prelude.{◌≡◌, ◌+◌, ◌≤◌, length, IfOk, IfSome, option_map};
+ghost use Rattle.std.specs.Prelude.{◌≡◌, ◌+◌, ◌≤◌, length, take, IfOk, IfSome, option_map};
 ghost use Rattle.std.specs.Cow.{cow_slice_items};
 ghost use Rattle.ogg_packets.specs.Pieces.{bytes_of};
-ghost use Rattle.ogg_packets.specs.Entries.{is_packet_entry, mark_in, packet_in, whole, EntryLiesBefore};
+ghost use Rattle.ogg_packets.specs.Entries.{front_in, is_packet_entry, mark_in, packet_in, whole, EntryLiesBefore};
 ghost use Rattle.ogg_packets.specs.Kept.{entry_in};
 
 use crate::entry::Entry;
+use crate::front::Front;
 use crate::join::joined;
 use crate::pieces::{Piece, Pieces};
 use model_ogg::Mark;
@@ -91,12 +92,28 @@ fn packet(alloc: Global, place: u32, len: u32, mark: Option<Mark>) -> Entry
 }
 
 /// The bytes of a packet of one piece, where they stand.
+fn piece_bytes(bytes: &[u8], place: u32, len: u32) -> &[u8]
+    requires { place + len ≤ length bytes.now }
+    ensures { result.now ≡ bytes_of bytes.now (record { place = place; len = len }) }
+{
+    let start = place as usize;
+    &bytes[start..start + len as usize]
+}
+
+/// The bytes of a packet of one piece, lent.
 fn lent<'a>(bytes: &'a [u8], place: u32, len: u32) -> CowSlice<'a, u8>
     requires { place + len ≤ length bytes.now }
     ensures { cow_slice_items result ≡ bytes_of bytes.now (record { place = place; len = len }) }
 {
-    let start = place as usize;
-    CowSlice::Borrowed(&bytes[start..start + len as usize])
+    CowSlice::Borrowed(piece_bytes(bytes, place, len))
+}
+
+/// The front of a packet of one piece.
+fn piece_front(bytes: &[u8], place: u32, len: u32) -> Front
+    requires { place + len ≤ length bytes.now }
+    ensures { result ≡ take 2 (bytes_of bytes.now (record { place = place; len = len })) }
+{
+    Front::of(piece_bytes(bytes, place, len))
 }
 
 /// The bytes of an entry, joined, if it is a packet.
@@ -115,6 +132,17 @@ fn joined_packet<'a>(
             Ok(Some(CowSlice::Owned(packet)))
         }
         Entry::Lost => Ok(None),
+    }
+}
+
+/// The front of an entry's packet, which is joined for it, if it is a packet.
+fn joined_front(alloc: Global, bytes: &[u8], entry: &Entry) -> Result<Option<Front>, NoMemory>
+    requires { EntryLiesBefore (length bytes.now) entry.now }
+    ensures { IfOk result (λ front. front ≡ front_in bytes.now entry.now) }
+{
+    match joined_packet(alloc, bytes, entry)? {
+        Some(packet) => Ok(Some(Front::of(packet.as_slice()))),
+        None => Ok(None),
     }
 }
 
@@ -234,6 +262,22 @@ impl KeptEntry {
             Packed::Marked { place, len, .. } => Ok(Some(lent(bytes, *place, *len))),
             Packed::Last { place, len, .. } => Ok(Some(lent(bytes, *place, *len))),
             Packed::Other(entry) => joined_packet(alloc, bytes, entry),
+        }
+    }
+
+    /// The front of the entry's packet, if it is a packet. Memory is taken only where the packet
+    /// lies in several pieces.
+    #[inline(always)]
+    pub fn front(&self, alloc: Global, bytes: &[u8]) -> Result<Option<Front>, NoMemory>
+        requires { EntryLiesBefore (length bytes.now) self.now }
+        ensures { IfOk result (λ front. front ≡ front_in bytes.now self.now) }
+    {
+        match &self.packed {
+            Packed::Lost => Ok(None),
+            Packed::Whole { place, len } => Ok(Some(piece_front(bytes, *place, *len))),
+            Packed::Marked { place, len, .. } => Ok(Some(piece_front(bytes, *place, *len))),
+            Packed::Last { place, len, .. } => Ok(Some(piece_front(bytes, *place, *len))),
+            Packed::Other(entry) => joined_front(alloc, bytes, entry),
         }
     }
 }

@@ -5,6 +5,7 @@
 
 mod entry;
 mod fault;
+mod front;
 mod join;
 mod kept;
 mod list;
@@ -16,6 +17,7 @@ mod walk;
 
 pub use entry::Entry;
 pub use fault::EntryFault;
+pub use front::Front;
 pub use join::joined;
 pub use kept::KeptEntry;
 pub use model_ogg::{Mark, PageRef};
