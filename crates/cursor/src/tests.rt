@@ -7,7 +7,7 @@ ghost use Rattle.model_cursor.specs.Sources.{Suits, ItemSuits};
 use super::*;
 use crate::blocks::fetch_all;
 use constants_file::Constants;
-use film_index::{GapKind, Half, Index, Item, LinkRows, Row, RowKind};
+use film_index::{GapKind, Half, Index, Item, LinkRows, Row, RowKind, Rows};
 use model_synthesis::CONSTANTS_WORD;
 use sequence::{NoMemory, Sequence};
 use std::alloc::Global;
@@ -65,6 +65,17 @@ const SEEKS: [Seek; 7] = [
     ("far past it", u64::MAX, Sought::Invalid { total: 64 }, 7),
 ];
 
+/// These entries, as a link keeps them.
+fn rows_of(alloc: Global, rows: &[Row]) -> Result<Rows, NoMemory>
+    ensures { IfOk result (λ kept. kept ≡ rows.now) }
+{
+    let mut kept = Rows::with_capacity(alloc, rows.len())?;
+    for row in rows {
+        kept.push(*row)?;
+    }
+    Ok(kept)
+}
+
 /// A link with blocks of 64 and the first hundred of these entries.
 fn link_of(alloc: Global, rows: &[Row]) -> Result<LinkRows, NoMemory>
     ensures sizes { IfOk result FitsLink }
@@ -76,7 +87,7 @@ fn link_of(alloc: Global, rows: &[Row]) -> Result<LinkRows, NoMemory>
         rate: 8000,
         short: 64,
         long: 64,
-        rows: Sequence::of(rows.to_vec(alloc)?),
+        rows: rows_of(alloc, rows)?,
     })
 }
 

@@ -2,6 +2,7 @@ pub mod Counts
 pub mod FirstThree
 pub mod LinkSteps
 pub mod HeldPieces
+pub mod HeadFronts
 pub mod RowSteps
 pub mod EndSteps
 pub mod ReadSteps

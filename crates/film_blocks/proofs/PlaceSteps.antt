@@ -1,17 +1,16 @@
 -- The places of the rows that are blocks, one row at a time.
-use Rattle.std.proofs.Common.{◌≡◌, ℕ, ◌+◌, ◌<◌, ◌≤◌, List, ◌++◌, length, drop, get_or, sym, ◌∙◌, append_assoc}
-use Rattle.std.proofs.lemmas.List.{at_drop_more, drop_all, append-nil}
+use Rattle.std.proofs.Common.{◌≡◌, ℕ, ◌+◌, List, [], ◌∷◌, ◌++◌, sym, ◌∙◌, append_assoc}
+use Rattle.std.proofs.lemmas.List.{append-nil}
 use Rattle.model_line.specs.declared.row.Row.{Row}
 use Rattle.film_blocks.specs.Places.{block_place, block_places}
 
-pub places_go_on : (place i : ℕ) (rows : List Row) (d : Row) (places now total : List ℕ) → i < length rows → now ≡ places ++ block_place place (get_or rows i d)
-    → places ++ block_places place (drop i rows) ≡ total → now ++ block_places (place + 1) (drop (i + 1) rows) ≡ total
+pub places_go_on : (place : ℕ) (rows : List Row) (row : Row) (behind : List Row) (places now total : List ℕ) → rows ≡ row ∷ behind → now ≡ places ++ block_place place row
+    → places ++ block_places place rows ≡ total → now ++ block_places (place + 1) behind ≡ total
 unfolding block_places
-places_go_on place i rows d places now total lt now-is h =
-    let rest = block_places (place + 1) (drop (i + 1) rows) in
-    let more = at_drop_more (λ (xs : List Row). places ++ block_places place xs) rows i d lt in
-    rw now-is (append_assoc places (block_place place (get_or rows i d)) rest ∙ sym more ∙ h)
+places_go_on place rows row behind places now total split now-is h =
+    let more = rw split at h in
+    rw now-is (append_assoc places (block_place place row) (block_places (place + 1) behind) ∙ more)
 
-pub places_end : (place i : ℕ) (rows : List Row) (places total : List ℕ) → length rows ≤ i → places ++ block_places place (drop i rows) ≡ total → places ≡ total
+pub places_end : (place : ℕ) (rows : List Row) (places total : List ℕ) → rows ≡ [] → places ++ block_places place rows ≡ total → places ≡ total
 unfolding block_places
-places_end place i rows places total le h = let none = rw (drop_all i rows le) at h in sym (append-nil places) ∙ none
+places_end place rows places total none h = let all = rw none at h in sym (append-nil places) ∙ all

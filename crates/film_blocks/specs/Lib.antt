@@ -1,6 +1,7 @@
 pub mod Headers
 pub mod Held
 pub mod Ends
+pub mod Fronts
 pub mod Places
 pub mod Reads
 pub mod Opened

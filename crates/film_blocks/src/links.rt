@@ -21,7 +21,7 @@ use crate::places::{HEADER_COUNT, block_places};
 use crate::rows::rows;
 use block_decoding::BlockSizes;
 use chain_links::{LinkPages, pages_in};
-use model_line::{FilmFault, LinkCounts, LinkRows, MOST_ENTRIES, Rows};
+use model_line::{FilmFault, LinkCounts, LinkRows, MOST_ENTRIES};
 use ogg_packets::{EntryFault, KeptEntry, PageRef, kept_packets, stream_len};
 use sequence::NoMemory;
 use std::alloc::Global;
@@ -83,7 +83,7 @@ fn link_rows(
         rate: heads.ident.rate,
         short: heads.ident.short,
         long: heads.ident.long,
-        rows: Rows::of(rows),
+        rows,
     })
 }
 
@@ -126,7 +126,7 @@ fn read_link(
     };
     let heads = read_heads(alloc, bytes, number, &entries)?;
     let rows = link_rows(alloc, bytes, &heads, &entries)?;
-    let blocks = block_places(alloc, rows.rows.items(), HEADER_COUNT)?;
+    let blocks = block_places(alloc, &rows.rows, HEADER_COUNT)?;
     let counts = counts_of(link.serial, pages, &entries);
     Ok(ReadLink {
         held: HeldLink {

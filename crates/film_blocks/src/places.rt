@@ -1,7 +1,7 @@
 ghost use Rattle.std.specs.Prelude.{◌≡◌, ◌+◌, ◌<◌, ◌++◌, ◌^◌, length, IfOk};
 ghost use Rattle.film_blocks.specs.Places.{block_place, block_places};
 
-use model_line::{Row, RowKind};
+use model_line::{Row, RowKind, Rows};
 use sequence::NoMemory;
 use std::alloc::Global;
 
@@ -20,14 +20,14 @@ fn push_place(places: &mut Vec<u32>, row: &Row, place: u32) -> Result<(), NoMemo
 }
 
 /// The places of the rows that are blocks, where the first row has this place.
-pub fn block_places(alloc: Global, rows: &[Row], first: u32) -> Result<Vec<u32>, NoMemory>
+pub fn block_places(alloc: Global, rows: &Rows, first: u32) -> Result<Vec<u32>, NoMemory>
     requires { first + length rows.now < 2 ^ 32 }
     ensures { IfOk result (λ places. places.items ≡ block_places first rows.now) }
 {
     let mut places = Vec::with_capacity(alloc, rows.len())?;
     let mut place = first;
-    for row in rows {
-        push_place(&mut places, row, place)?;
+    for row in rows.iter() {
+        push_place(&mut places, &row, place)?;
         place += 1;
     }
     Ok(places)

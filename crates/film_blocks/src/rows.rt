@@ -1,9 +1,10 @@
-ghost use Rattle.std.specs.Prelude.{◌≡◌, ◌≤◌, [], ◌∷◌, ◌++◌, length, map, All, IfOk, OnOk};
-ghost use Rattle.ogg_packets.specs.Entries.{item_of, items_of, EntryLiesBefore};
+ghost use Rattle.std.specs.Prelude.{◌≡◌, ◌≤◌, length, map, All, IfOk};
+ghost use Rattle.ogg_packets.specs.Entries.{front_in, items_of, EntryLiesBefore};
 ghost use Rattle.model_line.specs.PacketRows.{kind_by_head, row_of};
+ghost use Rattle.film_blocks.specs.Fronts.{kind_by_front};
 
-use model_line::{Row, RowKind};
-use ogg_packets::{KeptEntry, Mark};
+use model_line::{Row, RowKind, Rows};
+use ogg_packets::{Front, KeptEntry};
 use sequence::NoMemory;
 use setup_header::{PacketHead, head};
 use std::alloc::Global;
@@ -21,39 +22,33 @@ fn kind_by(head: PacketHead, long_flags: &[bool]) -> RowKind
     }
 }
 
-/// What an entry is for the line.
-fn entry_kind(
+/// The front of each entry's packet, in order. Nothing else is done here, so that many of the
+/// first bytes can be on their way from memory at once.
+fn fronts(
     alloc: Global,
     bytes: &[u8],
-    long_flags: &[bool],
-    entry: &KeptEntry,
-) -> Result<RowKind, NoMemory>
-    requires some { 1 ≤ length long_flags.now }
-    requires few { length long_flags.now ≤ 64 }
-    requires lies { EntryLiesBefore (length bytes.now) entry.now }
-    ensures { IfOk result (λ kind.
-        kind ≡ (row_of long_flags.now (item_of bytes.now entry.now)).kind) }
+    entries: &[KeptEntry],
+) -> Result<Vec<Option<Front>>, NoMemory>
+    requires { All (EntryLiesBefore (length bytes.now)) entries.now }
+    ensures { IfOk result (λ fronts. fronts.items ≡ map (front_in bytes.now) entries.now) }
 {
-    match entry.bytes(alloc, bytes)? {
-        Some(packet) => Ok(kind_by(head(long_flags, packet.as_slice()), long_flags)),
-        None => Ok(RowKind::Lost),
+    let mut fronts = Vec::with_capacity(alloc, entries.len())?;
+    for entry in entries {
+        fronts.push(entry.front(alloc, bytes)?)?;
     }
+    Ok(fronts)
 }
 
-/// Adds the row of an entry. The few rows with a mark are written apart, since a mark is copied
-/// with its padding.
-fn push_row(rows: &mut Vec<Row>, kind: RowKind, mark: Option<Mark>) -> Result<(), NoMemory>
-    ensures { OnOk result
-        (rows.new.items ≡ rows.old.items ++ record { kind = kind; mark = mark } ∷ []) }
+/// What an entry is for the line, by the front of its packet.
+fn front_kind(front: &Option<Front>, long_flags: &[bool]) -> RowKind
+    requires some { 1 ≤ length long_flags.now }
+    requires few { length long_flags.now ≤ 64 }
+    ensures { result ≡ kind_by_front long_flags.now front.now }
 {
-    match mark {
-        None => rows.push(Row { kind, mark: None })?,
-        Some(mark) => rows.push(Row {
-            kind,
-            mark: Some(mark),
-        })?,
+    match front {
+        Some(front) => kind_by(head(long_flags, front.as_slice()), long_flags),
+        None => RowKind::Lost,
     }
-    Ok(())
 }
 
 /// The rows of entries, in order, where the modes have these block flags. No packet is copied that
@@ -63,17 +58,20 @@ pub fn rows(
     bytes: &[u8],
     long_flags: &[bool],
     entries: &[KeptEntry],
-) -> Result<Vec<Row>, NoMemory>
+) -> Result<Rows, NoMemory>
     requires some { 1 ≤ length long_flags.now }
     requires few { length long_flags.now ≤ 64 }
     requires lies { All (EntryLiesBefore (length bytes.now)) entries.now }
-    ensures { IfOk result (λ rows. rows.items
+    ensures { IfOk result (λ rows. rows
         ≡ map (row_of long_flags.now) (items_of bytes.now entries.now)) }
 {
-    let mut rows = Vec::with_capacity(alloc, entries.len())?;
-    for entry in entries {
-        let kind = entry_kind(alloc, bytes, long_flags, entry)?;
-        push_row(&mut rows, kind, entry.mark())?;
+    let fronts = fronts(alloc, bytes, entries)?;
+    let mut rows = Rows::with_capacity(alloc, entries.len())?;
+    for (i, entry) in entries.iter().enumerate() {
+        rows.push(Row {
+            kind: front_kind(&fronts[i], long_flags),
+            mark: entry.mark(),
+        })?;
     }
     Ok(rows)
 }

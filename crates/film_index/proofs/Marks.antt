@@ -1,10 +1,8 @@
 -- The marks of a link, one entry at a time.
-use Rattle.std.proofs.Common.{◌≡◌, ℕ, ◌+◌, ◌-◌, ◌≤◌, ◌<◌, true, false, cond, List, [], ◌∷◌, length, map, drop, get_or, refl, ap, sym, ◌∙◌, Option, Some, None}
-use Rattle.std.proofs.lemmas.List.{at_drop_more, drop_all}
+use Rattle.std.proofs.Common.{◌≡◌, ℕ, ◌+◌, ◌-◌, true, false, cond, List, [], ◌∷◌, length, map, refl, ap, sym, ◌∙◌, Option, Some, None}
 use Rattle.std.proofs.lemmas.List.FromFn.{length-range_with_len}
 use Rattle.model_ogg.specs.declared.page.Mark.{Mark}
 use Rattle.model_line.specs.declared.row.Row.{Row}
-use Rattle.model_line.specs.declared.row.RowKind.TheVariants.{Lost}
 use Rattle.model_line.specs.declared.trim.Marked.{Marked}
 use Rattle.model_line.specs.declared.trim.Stretch.{Stretch}
 use Rattle.model_line.specs.Decode.{frames_given, previous_after}
@@ -13,36 +11,28 @@ use Rattle.model_line.specs.Origins.{frame_numbers, kind_of, entry_of}
 
 pub ruleset count_laws = (length-range_with_len)
 
--- what a loop's reads fall back on, past the end
-abbrev pub no_row : Row
-no_row = record { kind = Lost; mark = None }
-
 -- the marks of the entries from one on
 abbrev pub marks_behind : ℕ → ℕ → ℕ → Option ℕ → List Row → List Marked
 marks_behind short long n previous rows = marks frame_numbers n previous (map (entry_of short long) rows)
 
--- an entry with a mark, or without
-pub marks-marked : (short long n frames : ℕ) (previous next : Option ℕ) (rows : List Row) (i : ℕ) (m : Mark) → i < length rows → (get_or rows i no_row).mark ≡ Some m
-    → frames ≡ n + length (frames_given frame_numbers (kind_of short long (get_or rows i no_row).kind) previous)
-    → next ≡ previous_after (kind_of short long (get_or rows i no_row).kind) previous
-    → marks_behind short long n previous (drop i rows) ≡ record { granule = m.granule; last = m.last; frames = frames } ∷ marks_behind short long frames next (drop (i + 1) rows)
+-- an entry with a mark, or without, before others
+pub marks-marked : (short long n frames : ℕ) (previous next : Option ℕ) (rows : List Row) (row : Row) (behind : List Row) (m : Mark) → rows ≡ row ∷ behind → row.mark ≡ Some m
+    → frames ≡ n + length (frames_given frame_numbers (kind_of short long row.kind) previous)
+    → next ≡ previous_after (kind_of short long row.kind) previous
+    → marks_behind short long n previous rows ≡ record { granule = m.granule; last = m.last; frames = frames } ∷ marks_behind short long frames next behind
 unfolding marks
-marks-marked short long n frames previous next rows i m lt is frames-is next-is =
-    let more = at_drop_more (marks_behind short long n previous) rows i no_row lt in
-    rw (frames-is, next-is) (rw is at more)
+marks-marked short long n frames previous next rows row behind m split is frames-is next-is = rw (split, frames-is, next-is, is) refl
 
-pub marks-unmarked : (short long n frames : ℕ) (previous next : Option ℕ) (rows : List Row) (i : ℕ) → i < length rows → (get_or rows i no_row).mark ≡ None
-    → frames ≡ n + length (frames_given frame_numbers (kind_of short long (get_or rows i no_row).kind) previous)
-    → next ≡ previous_after (kind_of short long (get_or rows i no_row).kind) previous
-    → marks_behind short long n previous (drop i rows) ≡ marks_behind short long frames next (drop (i + 1) rows)
+pub marks-unmarked : (short long n frames : ℕ) (previous next : Option ℕ) (rows : List Row) (row : Row) (behind : List Row) → rows ≡ row ∷ behind → row.mark ≡ None
+    → frames ≡ n + length (frames_given frame_numbers (kind_of short long row.kind) previous)
+    → next ≡ previous_after (kind_of short long row.kind) previous
+    → marks_behind short long n previous rows ≡ marks_behind short long frames next behind
 unfolding marks
-marks-unmarked short long n frames previous next rows i lt is frames-is next-is =
-    let more = at_drop_more (marks_behind short long n previous) rows i no_row lt in
-    rw (frames-is, next-is) (rw is at more)
+marks-unmarked short long n frames previous next rows row behind split is frames-is next-is = rw (split, frames-is, next-is, is) refl
 
-pub marks-none : (short long n : ℕ) (previous : Option ℕ) (rows : List Row) (i : ℕ) → length rows ≤ i → marks_behind short long n previous (drop i rows) ≡ []
+pub marks-none : (short long n : ℕ) (previous : Option ℕ) (rows : List Row) → rows ≡ [] → marks_behind short long n previous rows ≡ []
 unfolding marks
-marks-none short long n previous rows i le = rw (drop_all i rows le) refl
+marks-none short long n previous rows none = rw none refl
 
 -- ---- the front: by the first of them
 

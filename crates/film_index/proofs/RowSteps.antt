@@ -1,8 +1,8 @@
 -- The line of a link, one entry at a time.
-use Rattle.std.proofs.Common.{◌≡◌, ℕ, ◌+◌, ◌-◌, ◌≤◌, ◌<◌, Bool, List, ◌++◌, length, map, drop, get_or, refl, ap, sym, ◌∙◌, arith, ◌⊎◌, inl, inr, append_assoc, Option, Some, None}
+use Rattle.std.proofs.Common.{◌≡◌, ℕ, ◌+◌, ◌-◌, ◌≤◌, ◌<◌, Bool, List, [], ◌∷◌, ◌++◌, length, map, refl, ap, sym, ◌∙◌, arith, ◌⊎◌, inl, inr, append_assoc, Option, Some, None}
 use Rattle.std.specs.Prelude.{IfSome}
 use Rattle.std.specs.List.{range_with_len}
-use Rattle.std.proofs.lemmas.List.{append-nil, at_drop_more, drop_all}
+use Rattle.std.proofs.lemmas.List.{append-nil}
 use Rattle.std.proofs.lemmas.List.FromFn.{length-range_with_len, length-map-range_with_len}
 use Rattle.model_line.specs.declared.trim.Cuts.{Cuts}
 use Rattle.model_line.specs.declared.row.Row.{Row}
@@ -14,7 +14,6 @@ use Rattle.model_line.specs.Origins.{overlap_len, frame_numbers, size_of, kind_o
 use Rattle.model_line.proofs.Counts.{frame_count-frames, trimmed-append}
 use Rattle.model_line.proofs.Edges.{edge_passed}
 use Rattle.film_index.specs.Listings.{before}
-use Rattle.film_index.proofs.Marks.{no_row}
 
 -- where an entry gives frames, a block has come before it
 pub some_before : (n count : ℕ) (kind : Kind ℕ) (previous : Option ℕ) → IfSome previous (λ _. 0 < n) → count ≡ length (frames_given frame_numbers kind previous) → 0 < count → 0 < n
@@ -62,61 +61,61 @@ some_after n (decoded size) previous some = omega arith
 abbrev pub items_behind : ℕ → ℕ → ℕ → ℕ → Option ℕ → List Row → List (LineItem Origin)
 items_behind link short long n previous rows = linear_decode link origins (before n previous) (numbered_entries n (map (entry_of short long) rows))
 
-pub rows_step : (cuts : Cuts) (link short long n next frames given : ℕ) (previous after : Option ℕ) (rows : List Row) (i : ℕ) (old now total : List (LineItem Origin)) → i < length rows
-    → now ≡ old ++ trimmed cuts frames (items_given link origins (kind_at n (kind_of short long (get_or rows i no_row).kind)) (before n previous))
-    → next ≡ number_after n (kind_of short long (get_or rows i no_row).kind)
-    → given ≡ frames + length (frames_given frame_numbers (kind_of short long (get_or rows i no_row).kind) previous)
-    → after ≡ previous_after (kind_of short long (get_or rows i no_row).kind) previous
-    → old ++ trimmed cuts frames (items_behind link short long n previous (drop i rows)) ≡ total
-    → now ++ trimmed cuts given (items_behind link short long next after (drop (i + 1) rows)) ≡ total
+pub rows_step : (cuts : Cuts) (link short long n next frames given : ℕ) (previous after : Option ℕ) (rows : List Row) (row : Row) (behind : List Row) (old now total : List (LineItem Origin)) → rows ≡ row ∷ behind
+    → now ≡ old ++ trimmed cuts frames (items_given link origins (kind_at n (kind_of short long row.kind)) (before n previous))
+    → next ≡ number_after n (kind_of short long row.kind)
+    → given ≡ frames + length (frames_given frame_numbers (kind_of short long row.kind) previous)
+    → after ≡ previous_after (kind_of short long row.kind) previous
+    → old ++ trimmed cuts frames (items_behind link short long n previous rows) ≡ total
+    → now ++ trimmed cuts given (items_behind link short long next after behind) ≡ total
 unfolding linear_decode numbered_entries
-rows_step cuts link short long n next frames given previous after rows i old now total lt now-is next-is given-is after-is h =
-    let kind = kind_of short long (get_or rows i no_row).kind in
+rows_step cuts link short long n next frames given previous after rows row behind old now total split now-is next-is given-is after-is h =
+    let kind = kind_of short long row.kind in
     let here = items_given link origins (kind_at n kind) (before n previous) in
-    let rest = items_behind link short long (number_after n kind) (previous_after kind previous) (drop (i + 1) rows) in
-    let more : items_behind link short long n previous (drop i rows) ≡ here ++ rest =
-    at_drop_more (items_behind link short long n previous) rows i no_row lt ∙ ap (λ p. here ++ linear_decode link origins p (numbered_entries (number_after n kind) (map (entry_of short long) (drop (i + 1) rows)))) (before_after n kind previous) in
-    let split = trimmed-append cuts frames here rest ∙ ap (λ k. trimmed cuts frames here ++ trimmed cuts (frames + k) rest) (given_count link n kind previous) in
+    let rest = items_behind link short long (number_after n kind) (previous_after kind previous) behind in
+    let more : items_behind link short long n previous rows ≡ here ++ rest =
+    ap (items_behind link short long n previous) split ∙ ap (λ p. here ++ linear_decode link origins p (numbered_entries (number_after n kind) (map (entry_of short long) behind))) (before_after n kind previous) in
+    let parted = trimmed-append cuts frames here rest ∙ ap (λ k. trimmed cuts frames here ++ trimmed cuts (frames + k) rest) (given_count link n kind previous) in
     rw (now-is, next-is, given-is, after-is) (
     append_assoc old (trimmed cuts frames here) (trimmed cuts (frames + length (frames_given frame_numbers kind previous)) rest)
-    ∙ ap (λ xs. old ++ xs) (sym split)
+    ∙ ap (λ xs. old ++ xs) (sym parted)
     ∙ ap (λ xs. old ++ trimmed cuts frames xs) (sym more)
     ∙ h)
 
-pub rows_end : (cuts : Cuts) (link short long n frames : ℕ) (previous : Option ℕ) (rows : List Row) (i : ℕ) (old total : List (LineItem Origin)) → length rows ≤ i
-    → old ++ trimmed cuts frames (items_behind link short long n previous (drop i rows)) ≡ total → old ≡ total
+pub rows_end : (cuts : Cuts) (link short long n frames : ℕ) (previous : Option ℕ) (rows : List Row) (old total : List (LineItem Origin)) → rows ≡ []
+    → old ++ trimmed cuts frames (items_behind link short long n previous rows) ≡ total → old ≡ total
 unfolding linear_decode numbered_entries trimmed
-rows_end cuts link short long n frames previous rows i old total le h = let here = rw (drop_all i rows le) at h in sym (append-nil old) ∙ here
+rows_end cuts link short long n frames previous rows old total none h = let here = rw none at h in sym (append-nil old) ∙ here
 
 -- ---- edges
 
-pub edge_here : (short long frames edge : ℕ) (previous : Option ℕ) (rows : List Row) (i : ℕ) → i < length rows → AtEdge frame_numbers edge frames previous (map (entry_of short long) (drop i rows))
-    → (edge ≤ frames) ⊎ (frames + length (frames_given frame_numbers (kind_of short long (get_or rows i no_row).kind) previous) ≤ edge)
+pub edge_here : (short long frames edge : ℕ) (previous : Option ℕ) (rows : List Row) (row : Row) (behind : List Row) → rows ≡ row ∷ behind → AtEdge frame_numbers edge frames previous (map (entry_of short long) rows)
+    → (edge ≤ frames) ⊎ (frames + length (frames_given frame_numbers (kind_of short long row.kind) previous) ≤ edge)
 unfolding AtEdge
-edge_here short long frames edge previous rows i lt at =
-    let here = rw (at_drop_more (λ (xs : List Row). xs) rows i no_row lt) at at in
+edge_here short long frames edge previous rows row behind split at =
+    let here = rw split at at in
     elim here [ inl le ↦ inl le | inr more ↦ inr more.0 ]
 
-pub edge_next : (short long frames given edge : ℕ) (previous after : Option ℕ) (rows : List Row) (i : ℕ) → i < length rows
-    → given ≡ frames + length (frames_given frame_numbers (kind_of short long (get_or rows i no_row).kind) previous)
-    → after ≡ previous_after (kind_of short long (get_or rows i no_row).kind) previous
-    → AtEdge frame_numbers edge frames previous (map (entry_of short long) (drop i rows))
-    → AtEdge frame_numbers edge given after (map (entry_of short long) (drop (i + 1) rows))
+pub edge_next : (short long frames given edge : ℕ) (previous after : Option ℕ) (rows : List Row) (row : Row) (behind : List Row) → rows ≡ row ∷ behind
+    → given ≡ frames + length (frames_given frame_numbers (kind_of short long row.kind) previous)
+    → after ≡ previous_after (kind_of short long row.kind) previous
+    → AtEdge frame_numbers edge frames previous (map (entry_of short long) rows)
+    → AtEdge frame_numbers edge given after (map (entry_of short long) behind)
 unfolding AtEdge
-edge_next short long frames given edge previous after rows i lt given-is after-is at =
-    let here = rw (at_drop_more (λ (xs : List Row). xs) rows i no_row lt) at at in
+edge_next short long frames given edge previous after rows row behind split given-is after-is at =
+    let here = rw split at at in
     elim here [
-      | inl le ↦ edge_passed frame_numbers edge given after (map (entry_of short long) (drop (i + 1) rows)) (omega arith)
+      | inl le ↦ edge_passed frame_numbers edge given after (map (entry_of short long) behind) (omega arith)
       | inr more ↦ rw (given-is, after-is) more.1
     ]
 
 -- ---- numbers of blocks
 
-pub number_next : (short long n next : ℕ) (rows : List Row) (i total : ℕ) → i < length rows → next ≡ number_after n (kind_of short long (get_or rows i no_row).kind)
-    → number_behind n (map (entry_of short long) (drop i rows)) ≡ total → number_behind next (map (entry_of short long) (drop (i + 1) rows)) ≡ total
+pub number_next : (short long n next : ℕ) (rows : List Row) (row : Row) (behind : List Row) (total : ℕ) → rows ≡ row ∷ behind → next ≡ number_after n (kind_of short long row.kind)
+    → number_behind n (map (entry_of short long) rows) ≡ total → number_behind next (map (entry_of short long) behind) ≡ total
 unfolding number_behind
-number_next short long n next rows i total lt next-is h = rw next-is (sym (at_drop_more (λ (xs : List Row). number_behind n (map (entry_of short long) xs)) rows i no_row lt) ∙ h)
+number_next short long n next rows row behind total split next-is h = rw next-is (rw split at h)
 
-pub number_end : (short long n : ℕ) (rows : List Row) (i total : ℕ) → length rows ≤ i → number_behind n (map (entry_of short long) (drop i rows)) ≡ total → n ≡ total
+pub number_end : (short long n : ℕ) (rows : List Row) (total : ℕ) → rows ≡ [] → number_behind n (map (entry_of short long) rows) ≡ total → n ≡ total
 unfolding number_behind
-number_end short long n rows i total le h = rw (drop_all i rows le) at h
+number_end short long n rows total none h = rw none at h

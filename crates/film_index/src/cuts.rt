@@ -5,17 +5,17 @@ ghost use Rattle.model_line.specs.Origins.{frame_numbers, entry_of};
 ghost use Rattle.film_index.specs.Bounds.{FitSizes};
 
 use crate::walk::{Sizes, Walk};
-use model_line::{Cuts, MOST_ENTRIES, Marked, Row, Stretch};
+use model_line::{Cuts, MOST_ENTRIES, Marked, Rows, Stretch};
 
 /// How many frames are cut off at the front of a link.
-fn front_cut(sizes: Sizes, rows: &[Row]) -> u64
+fn front_cut(sizes: Sizes, rows: &Rows) -> u64
     requires sizes { FitSizes sizes }
     requires few { length rows.now ≤ MOST_ENTRIES }
     ensures { result ≡ front_cut
         (marks frame_numbers 0 None (map (entry_of sizes.short sizes.long) rows.now)) }
 {
     let mut walk = Walk::start();
-    for row in rows {
+    for row in rows.iter() {
         walk.pass(sizes, row.kind);
         if let Some(mark) = row.mark {
             return if mark.last {
@@ -41,7 +41,7 @@ fn beyond(before: &Marked, mark: &Marked) -> Stretch
 }
 
 /// Which frames are cut off at the end of a link.
-fn end_cut(sizes: Sizes, rows: &[Row]) -> Stretch
+fn end_cut(sizes: Sizes, rows: &Rows) -> Stretch
     requires sizes { FitSizes sizes }
     requires few { length rows.now ≤ MOST_ENTRIES }
     ensures { result ≡ end_cut no_mark
@@ -53,7 +53,7 @@ fn end_cut(sizes: Sizes, rows: &[Row]) -> Stretch
         last: false,
         frames: 0,
     };
-    for row in rows {
+    for row in rows.iter() {
         walk.pass(sizes, row.kind);
         if let Some(mark) = row.mark {
             let marked = Marked {
@@ -75,7 +75,7 @@ fn end_cut(sizes: Sizes, rows: &[Row]) -> Stretch
 
 /// Which frames of a link are cut off. The cut at the end ends with an entry.
 #[tactic(auto, unfolding(model_line::specs::Lines::link_cuts))]
-pub fn cuts(sizes: Sizes, rows: &[Row]) -> Cuts
+pub fn cuts(sizes: Sizes, rows: &Rows) -> Cuts
     requires sizes { FitSizes sizes }
     requires few { length rows.now ≤ MOST_ENTRIES }
     ensures cuts { result

@@ -59,7 +59,7 @@ fn entry_count(links: &[LinkRows]) -> usize
     requires { rows_in links.now ≤ MOST_ENTRIES }
     ensures { result ≡ rows_in links.now }
 {
-    links.iter().map(|link| link.rows.items().len()).sum()
+    links.iter().map(|link| link.rows.len()).sum()
 }
 
 /// Adds the line of a link of this number, and gives its facts.
@@ -85,7 +85,7 @@ fn add_link(listing: &mut Listing, number: u32, link: &LinkRows) -> Result<LinkF
         short: link.short,
         long: link.long,
     };
-    listing.add_rows(number, sizes, link.rows.items())?;
+    listing.add_rows(number, sizes, &link.rows)?;
     Ok(LinkFacts {
         channels: link.channels,
         rate: link.rate,

@@ -9,7 +9,7 @@ ghost use Rattle.film_index.specs.Listings.{IsListing, HasRoom, HasGrown, before
 
 use crate::cuts::cuts;
 use crate::walk::{Sizes, Walk};
-use model_line::{Cuts, GapKind, Item, Row, RowKind, Span};
+use model_line::{Cuts, GapKind, Item, RowKind, Rows, Span};
 use sequence::NoMemory;
 use std::alloc::Global;
 
@@ -221,7 +221,7 @@ impl Listing {
     }
 
     /// Adds the line of a link of this number: its entries' items, without what is cut off.
-    pub fn add_rows(&mut self, number: u32, sizes: Sizes, rows: &[Row]) -> Result<(), NoMemory>
+    pub fn add_rows(&mut self, number: u32, sizes: Sizes, rows: &Rows) -> Result<(), NoMemory>
         requires sizes { FitSizes sizes }
         requires right { IsListing (self.old.counts.blocks - 1) self.old.lists self.old.counts }
         requires room { HasRoom self.old.counts (length rows.now) }
@@ -244,7 +244,7 @@ impl Listing {
         };
         let mut counts = self.counts;
         let mut walk = Walk::start();
-        for row in rows {
+        for row in rows.iter() {
             self.lists.add_row(&mut counts, &link, &mut walk, row.kind)?;
         }
         self.counts = counts;

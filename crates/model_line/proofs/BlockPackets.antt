@@ -8,7 +8,7 @@ use Rattle.model_setup.specs.AudioHead.{head_of}
 use Rattle.model_line.specs.Origins.{kind_of, entry_of, entries_of, number_after, number_behind}
 use Rattle.model_line.specs.Index.{all_behind}
 use Rattle.model_line.specs.Acceptance.{FilmLink}
-use Rattle.model_line.specs.PacketRows.{BlockPacket, kind_by_head, row_of, block_flags, rows_by, rows_of, sized_links, block_by_head, block_packet, link_block_packets, block_packets_from}
+use Rattle.model_line.specs.PacketRows.{kind_by_head, row_of, block_flags, rows_by, rows_of, sized_links, block_by_head, block_packet, link_block_packets, block_packets_from}
 
 head_behind : (short long n number : ℕ) (flags : List Bool) (bytes : List ℕ) (head : PacketHead) → number_after n (kind_of short long (kind_by_head flags head)) ≡ n + length (block_by_head number bytes head)
 head_behind short long n number flags bytes heads.Skip = omega arith

@@ -2,7 +2,6 @@
 use Rattle.std.proofs.Common.{◌≡◌, ℕ, zero, suc, ◌+◌, List, [], ◌∷◌, length, option_map, refl, ap, ◌∙◌, arith}
 use Rattle.std.specs.List.{slice_get}
 use Rattle.model_line.specs.declared.row.LinkRows.{LinkRows}
-use Rattle.model_line.specs.declared.item.LinkFacts.{LinkFacts}
 use Rattle.model_line.specs.Index.{facts_of, facts_from}
 
 pub slice_get-facts : (n : ℕ) (links : List LinkRows) (i : ℕ) → slice_get (facts_from n links) i ≡ option_map (facts_of (n + i)) (slice_get links i)

@@ -12,3 +12,4 @@ pub mod Examples
 pub mod FilmExamples
 pub mod BlockPackets
 pub mod FactsAt
+pub mod KeptSteps

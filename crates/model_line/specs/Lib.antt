@@ -11,3 +11,4 @@ pub mod FaultTexts
 pub mod LinkTests
 pub mod Acceptance
 pub mod PacketRows
+pub mod KeptRows

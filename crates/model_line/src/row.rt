@@ -1,5 +1,5 @@
+use crate::rows::Rows;
 use model_ogg::Mark;
-use sequence::Sequence;
 
 /// The most entries that the links of a film may have together.
 pub const MOST_ENTRIES: u32 = 1 << 22;
@@ -35,9 +35,6 @@ pub struct Row {
     pub kind: RowKind,
     pub mark: Option<Mark>,
 }
-
-/// The entries of a link, in order.
-pub type Rows = Sequence<Row>;
 
 /// The entries of a link after its three headers, and what the headers say.
 #[derive(Debug, Drop)]

@@ -8,4 +8,4 @@ pub returns : goal.returns
 unfolding rows_by
 returns c =
     let said = rw (c.after.ensures, c.long_flags.ensures) at c.in_ok-rows.ensures in
-    rw (c.of.ensures, said, drop-map (item_of c.args.bytes.now) 3 c.args.entries.now) refl
+    rw (said, drop-map (item_of c.args.bytes.now) 3 c.args.entries.now) refl

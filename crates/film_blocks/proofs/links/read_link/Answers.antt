@@ -47,7 +47,7 @@ returns-clause-read c =
     let fit = c.in_ok-heads.ensures.fit in
     link_read c.args.bytes.now _ c.in_ok-rows.rows c.in_ok-heads.heads.ident c.in_ok-heads.heads.setup c.in-Ok.ensures.within refl
     (accepted c.args.number _ c.in_ok-heads.heads.ident c.in_ok-heads.heads.setup said) fit.playable fit.few fit.setup rows
-    (ap (λ (s : BlockSizes). s.short) c.block_sizes.ensures) (ap (λ (s : BlockSizes). s.long) c.block_sizes.ensures) (rw c.items.ensures at c.in_ok-blocks.ensures)
+    (ap (λ (s : BlockSizes). s.short) c.block_sizes.ensures) (ap (λ (s : BlockSizes). s.long) c.block_sizes.ensures) c.in_ok-blocks.ensures
 
 pub returns-clause-count : goal.returns-clause-count
 returns-clause-count c =
@@ -74,4 +74,4 @@ block_places-requires c =
     let given = rw c.pages_in-pages.ensures at c.in-Ok.ensures.answers in
     let within = few c.args.left items (items_of c.args.bytes.now c.in-Ok.entries.items) given in
     let rows = rw c.deref-2.ensures.value at c.in_ok-rows.ensures in
-    omega (arith, ap length c.items.ensures, rows_behind c.args.bytes.now _ c.in_ok-heads.heads.ident c.in_ok-heads.heads.setup c.in_ok-rows.rows rows, within.few, length-items c.args.bytes.now c.in-Ok.entries.items, ap length within.same, c.ranges.left.fits)
+    omega (arith, rows_behind c.args.bytes.now _ c.in_ok-heads.heads.ident c.in_ok-heads.heads.setup c.in_ok-rows.rows rows, within.few, length-items c.args.bytes.now c.in-Ok.entries.items, ap length within.same, c.ranges.left.fits)

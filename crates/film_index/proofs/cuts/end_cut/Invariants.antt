@@ -1,4 +1,4 @@
-use Rattle.std.proofs.Common.{◌≡◌, ◌*◌, ◌≤◌, None, drop, map}
+use Rattle.std.proofs.Common.{◌≡◌, ◌*◌, ◌+◌, ◌≤◌, None, length, map}
 use Rattle.std.specs.Prelude.{IfSome}
 use Rattle.model_line.specs.Trim.{end_cut, marks, no_mark}
 use Rattle.model_line.specs.Origins.{frame_numbers, entry_of}
@@ -8,7 +8,9 @@ use Rattle.film_index.proofs.cuts.end_cut.Given as goal
 
 abbrev pub invariant-loop-row : goal.invariant-loop-row
 invariant-loop-row l = record {
-  value : end_cut l.before (marks_behind l.sizes.short l.sizes.long l.walk.frames l.walk.previous (drop l.row-index l.rows)) ≡ end_cut no_mark (marks frame_numbers 0 None (map (entry_of l.sizes.short l.sizes.long) l.rows));
+  can : (goal.iterator-loop-row).can_next l.row-iterator;
+  finite : (goal.iterator-loop-row).is_finite l.row-iterator;
+  value : end_cut l.before (marks_behind l.sizes.short l.sizes.long l.walk.frames l.walk.previous l.row-iterator) ≡ end_cut no_mark (marks frame_numbers 0 None (map (entry_of l.sizes.short l.sizes.long) l.rows));
   previous : IfSome l.walk.previous FitsSize;
-  frames : l.walk.frames ≤ most_overlap * l.row-index;
+  frames : l.walk.frames + most_overlap * length l.row-iterator ≤ most_overlap * length l.rows;
 }
