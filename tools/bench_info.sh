@@ -3,9 +3,9 @@
 #
 #     tools/bench_info.sh
 #
-# Prints the median of five runs of each, which take turns, their ratio, and the most memory that a run took. Both run as
+# Prints the median of 101 runs of each, which take turns, their ratio, and the most memory that a run took. Both run as
 # `player` runs the program, with large pages. It fails where a run does not end with status 0.
-# ROUNDS is how many runs to take in place of five.
+# ROUNDS is how many runs to take in place of 101: the ratio of five is anything from 1.28 to 1.89 within minutes.
 # PLAYER is the program (default: the one that `player` at the repository's root runs).
 # FILM is a film to take in place of the one that is made.
 # Writes only below a folder of its own in the place for temporary files, and removes it.
@@ -25,7 +25,7 @@ if [ -z "$film" ]; then
 fi
 
 large_pages
-PYTHONPATH=$root/tools python3 -B - "$player" "$film" "${ROUNDS:-5}" <<'PYTHON'
+PYTHONPATH=$root/tools python3 -B - "$player" "$film" "${ROUNDS:-101}" <<'PYTHON'
 import os
 import sys
 

@@ -24,8 +24,8 @@ def run(words):
 
 def in_turns(commands, rounds=5):
     """Runs each of the commands, lists of words by their names, once, and then so often in turns with the others. Prints of
-    each the median of its times, all of them, the median of a processor's, which tells more where others run beside, and the
-    most memory. Gives the medians in seconds, and the memory in MiB."""
+    each the median of its times, all of them or of many the least and the most, the median of a processor's, which tells
+    more where others run beside, and the most memory. Gives the medians in seconds, and the memory in MiB."""
     for words in commands.values():
         run(words)
     runs = {name: [] for name in commands}
@@ -36,7 +36,10 @@ def in_turns(commands, rounds=5):
     for name, found in runs.items():
         times, processor, memory = zip(*found)
         medians[name], most[name] = statistics.median(times), max(memory)
-        each = ' '.join(f'{1000 * seconds:.1f}' for seconds in times)
+        if rounds < 20:
+            each = ' '.join(f'{1000 * seconds:.1f}' for seconds in times)
+        else:
+            each = f'{rounds} runs, {1000 * min(times):.1f} to {1000 * max(times):.1f}'
         print(f'{name}: median {1000 * medians[name]:.1f} ms of {each}; of a processor {statistics.median(processor):.2f} s; '
               f'at most {most[name]:.1f} MiB')
     return medians, most
