@@ -13,7 +13,7 @@ scratch_program bench_block block_decoding setup_header constants_file
 decoding=$work/crates/block_decoding
 sed -i 's/^fn bin_count/pub fn bin_count/' "$decoding/src/block.rt"
 sed -i 's/^fn write_spectrum/pub fn write_spectrum/' "$decoding/src/channels.rt"
-sed -i 's/^mod wanted;/mod until;\n&/; s/^pub use sequence::NoMemory;/&\npub use until::decode_until;/' "$decoding/src/lib.rt"
+sed -i 's/^mod wanted;/mod until;\n&/; s/^pub use memory::NoMemory;/&\npub use until::decode_until;/' "$decoding/src/lib.rt"
 mkdir -p "$decoding/proofs/until"/{parts_until,decode_until,synthesize_until}
 cat >"$decoding/src/until.rt" <<'RATTLE'
 //! Decodes a packet up to a part, for measuring: 0 is its head, 1 its floors, 2 its residues, 3 the coupling, 4 the curves,
@@ -40,7 +40,7 @@ use fixed_synthesis::{transform, uncouple_all};
 use lap_window::window;
 use model_block::BlockSizes;
 use residues::Line;
-use sequence::NoMemory;
+use memory::NoMemory;
 use setup_header::Setup;
 use std::alloc::Global;
 

@@ -5,13 +5,13 @@
 # repository.
 set -euo pipefail
 source "$(dirname "$(readlink -f "${BASH_SOURCE[0]}")")/scratch.sh"
-scratch_program bench_index film_index sequence
+scratch_program bench_index film_index memory
 cat >src/main.rt <<'RATTLE'
 //! Times the index of a link of 300,000 entries, most of them blocks that a page of 40 marks.
 #![tactic(auto)]
 
 use film_index::{Index, LinkRows, MOST_ENTRIES, Mark, Row, RowKind};
-use sequence::Sequence;
+use memory::Sequence;
 use std::alloc::{AllocError, Global};
 use std::io;
 use std::time::Instant;

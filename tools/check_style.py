@@ -123,7 +123,8 @@ def check(path):
     yield from widths(lines)
     if path.endswith('.rt'):
         yield from functions(text)
-        if 'tests' not in os.path.relpath(path, ROOT):
+        name = os.path.relpath(path, ROOT)
+        if 'tests' not in name and not name.startswith('test_'):
             yield from comments(lines)
             yield from errors(text)
 

@@ -2,9 +2,9 @@
 """The films of the tests, built page by page (RFC 3533, section 6).
 
     tools/films.py rust NAME..      these films, whole: film_blocks' src/tests/films.rt has those that its first line names
-    tools/films.py common           the films that several test crates use: tests_common's src/films.rt
-    tools/films.py runs             the others of player_tests, and those: its file src/runs/films.rt
-    tools/films.py plays            the others of play_tests, and those: its file src/films.rt
+    tools/films.py common           the films that several test crates use: test_common's src/films.rt
+    tools/films.py runs             the others of test_player, and those: its file src/runs/films.rt
+    tools/films.py plays            the others of test_play, and those: its file src/films.rt
     tools/films.py antt NAME..      the bytes of films as a list for an example
     tools/films.py file NAME PATH   one film as a file
 """
@@ -256,7 +256,7 @@ BLOCK_FILMS = {
                    "IDENT SETUP SOUND_AND_SKIP SECOND_IDENT SECOND_MODES SOUND_BEGINS SOUND_ENDS"),
 }
 
-# Films of play_tests alone.
+# Films of test_play alone.
 PLAY_FILMS = {
     "SILENT": ("Three audio packets, all silent.", "IDENT SETUP THREE_LAST"),
     "FLOOR_CUT_SHORT": ("Two audio packets, of which the second ends in its floor.", "IDENT SETUP FLOOR_ENDS"),
@@ -301,7 +301,7 @@ def rows(head, items, columns, end):
     return lines + ["]" + end]
 
 
-# The films that several test crates use, by tests_common.
+# The films that several test crates use, by test_common.
 COMMON = ["BASE", "EMPTY_PACKET", "PAGE_MISSING", "BODY_CHANGED", "CHAIN", "CUT_AT_THE_END", "BEGINS_LATE", "NO_SUCH_MODE",
           "NO_VORBIS", "FLOOR_OF_TYPE_0", "BOOK_TOO_LARGE"]
 # Parts that other films use as well.
@@ -340,7 +340,7 @@ def rust(names, command, parts, public=(), given=()):
     lines = ["//! The films of the tests, as lists of their parts. This file is written by", f"//! `{command}`."]
     if given:
         heads = sorted(set(parts_of(names)) & set(HEADS))
-        lines += ["", *imports("pub use tests_common::films", sorted(given)), *imports("use tests_common::films", heads)]
+        lines += ["", *imports("pub use test_common::films", sorted(given)), *imports("use test_common::films", heads)]
     for name in parts:
         part = (ALL_PARTS | MANY)[name]
         lines += ["", f"/// {HEADS[name]}"] if name in public and name in HEADS else [""]

@@ -1,7 +1,7 @@
 #!/usr/bin/env python3
 """Laps and crosses of cursors in whole numbers, for the table of the tests of plays.
 
-    tools/laps.py rows              prints crates/play_tests/src/laps/rows.rt
+    tools/laps.py rows              prints crates/test_play/src/laps/rows.rt
     tools/laps.py play FILM SCRIPT  writes what is reported of a script over a film of tools/films.py, by slopes of 1/2
 
 The values of blocks come from tools/blocks.py. What cursors answer is worked out from the whole line of a film, frame

@@ -10,7 +10,7 @@
 Each is rounded to the nearest whole number. All is computed in decimal numbers of 50 digits, and no value may be so near
 to the middle between two whole numbers that their errors could turn it, so that every machine makes the same bytes.
 
-The same bytes stand once more in crates/true_constants/data, where the program that reads them finds them in the gate. With
+The same bytes stand once more in crates/check_constants/data, where the program that reads them finds them in the gate. With
 --check nothing is written: the status is 1 where either file isn't what is made."""
 import os
 import struct
@@ -18,7 +18,7 @@ import sys
 from decimal import Decimal, getcontext
 
 ROOT = os.path.join(os.path.dirname(os.path.abspath(__file__)), '..')
-FILES = ['constants/true.bin', 'crates/true_constants/data/true.bin']
+FILES = ['constants/true.bin', 'crates/check_constants/data/true.bin']
 DECIBELS = os.path.join(ROOT, 'tools', 'inverse_db.txt')
 SLOPE_SIZES = [32 << k for k in range(8)]
 QUARTER = 8192

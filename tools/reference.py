@@ -1,9 +1,9 @@
 #!/usr/bin/env python3
 """Codebooks, floors and residues in the plain way of the Vorbis I specification, for the tables of the tests.
 
-    tools/reference.py codebooks   prints rows of the table ENTRIES of crates/decoding_tests/src/books.rt
-    tools/reference.py floors      prints crates/decoding_tests/src/floors/rows.rt
-    tools/reference.py residues    prints the table of crates/decoding_tests/src/residue_vectors.rt
+    tools/reference.py codebooks   prints rows of the table ENTRIES of crates/test_decoding/src/books.rt
+    tools/reference.py floors      prints crates/test_decoding/src/floors/rows.rt
+    tools/reference.py residues    prints the table of crates/test_decoding/src/residue_vectors.rt
 
 It follows the specification's own procedures (a tree of codewords in section 3, sorted lists of points and
 line rendering in section 7, nested loops in section 8) and shares nothing with the crates. Setups and packets

@@ -1,8 +1,8 @@
 #!/usr/bin/env python3
 """Setup packets and heads of audio packets, for the tables of the tests.
 
-    tools/setups.py rows       prints crates/setup_tests/src/setups/rows.rt
-    tools/setups.py films      prints crates/setup_tests/src/setups/films.rt, by oggenc
+    tools/setups.py rows       prints crates/test_setup/src/setups/rows.rt
+    tools/setups.py films      prints crates/test_setup/src/setups/films.rt, by oggenc
     tools/setups.py smallest   prints the smallest setup as it is written, as a constant
     tools/setups.py bench      prints the setup packet of a stereo film of quality 5 as a constant, by oggenc
 

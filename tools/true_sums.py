@@ -1,8 +1,8 @@
 #!/usr/bin/env python3
-"""Works out the half sums that the program `true_constants` prints, as the plain sums that they are, under the cosines of
+"""Works out the half sums that the program `check_constants` prints, as the plain sums that they are, under the cosines of
 constants/true.bin: for each size of block a number made of all of them, once for each way in which they are made.
 
-    tools/true_sums.py    prints the lines, which stand at the end of crates/true_constants/stdout"""
+    tools/true_sums.py    prints the lines, which stand at the end of crates/check_constants/stdout"""
 import os
 import struct
 

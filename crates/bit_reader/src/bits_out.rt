@@ -3,7 +3,7 @@ ghost use Rattle.std.specs.Int.{w64, to_le_bytes};
 ghost use Rattle.model_bits.specs.Bits.{bits_of, bits_of_number};
 ghost use Rattle.model_bits.specs.Writing.{filled};
 
-use sequence::NoMemory;
+use memory::NoMemory;
 use std::alloc::Global;
 use std::marker::Model;
 

@@ -8,7 +8,7 @@ mod bits_out;
 
 pub use bits_out::BitsOut;
 use byteorder::{ByteOrder, LittleEndian};
-pub use sequence::NoMemory;
+pub use memory::NoMemory;
 use std::marker::Model;
 
 /// The bits of a packet that are left to be read, of each byte the lowest first.

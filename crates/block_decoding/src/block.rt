@@ -21,9 +21,9 @@ use crate::wanted::wanted_channels;
 use bit_reader::Bits;
 use constants_file::Constants;
 use fixed_synthesis::uncouple_all;
+use memory::NoMemory;
 use model_block::BlockSizes;
 use residues::Line;
-use sequence::NoMemory;
 use setup_header::{Mapping, Setup};
 use std::alloc::Global;
 

@@ -12,8 +12,8 @@ use crate::curves::Curve;
 use constants_file::Constants;
 use fixed_synthesis::{shape, transform};
 use lap_window::{HalfBlock, window};
+use memory::NoMemory;
 use residues::Line;
-use sequence::NoMemory;
 use std::alloc::Global;
 
 /// Which window a block has: whether it, the block before it and the next one are long, and the

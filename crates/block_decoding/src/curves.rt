@@ -7,7 +7,7 @@ ghost use Rattle.model_block.specs.PacketParts.{read_curve, channel_curves};
 use bit_reader::Bits;
 use codebooks::Book;
 use floor_one::{Floor, Floored};
-use sequence::{NoMemory, Sequence};
+use memory::{NoMemory, Sequence};
 use setup_header::{Mapping, Setup};
 use std::alloc::Global;
 

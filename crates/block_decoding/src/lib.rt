@@ -11,8 +11,8 @@ mod wanted;
 
 pub use block::{HalvedBlock, decode};
 pub use lap_window::HalfBlock;
+pub use memory::NoMemory;
 pub use model_block::BlockSizes;
-pub use sequence::NoMemory;
 
 #[cfg(test)]
 mod tests;

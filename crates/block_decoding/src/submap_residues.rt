@@ -9,8 +9,8 @@ ghost use Rattle.model_block.specs.PacketParts.{is_flagged, channels_of, replace
 
 use bit_reader::Bits;
 use codebooks::Book;
+use memory::NoMemory;
 use residues::{Line, Residue, zero_lines};
-use sequence::NoMemory;
 use setup_header::{Mapping, Setup};
 use std::alloc::Global;
 

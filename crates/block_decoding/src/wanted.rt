@@ -4,7 +4,7 @@ ghost use Rattle.model_setup.specs.SetupPacket.{IsCoupling};
 ghost use Rattle.model_block.specs.PacketParts.{wanted_channels};
 
 use crate::curves::Curve;
-use sequence::NoMemory;
+use memory::NoMemory;
 use setup_header::Coupling;
 use std::alloc::{AllocError, Global};
 

@@ -1,6 +1,6 @@
 ghost use Rattle.std.specs.Prelude.{◌≡◌, ◌+◌, ◌<◌, ◌≤◌, ◌^◌, true, length, drop, All, IfOk, OnOk};
 ghost use Rattle.std.specs.List.{list_any};
-ghost use Rattle.sequence.specs.Answers.{Answers};
+ghost use Rattle.memory.specs.Answers.{Answers};
 ghost use Rattle.model_ogg.specs.Pages.{IsPageOf};
 ghost use Rattle.model_ogg.specs.Streams.{is_first};
 ghost use Rattle.model_ogg.specs.Links.{begins_link, up_to_link, before_links, chain, numbered, all_numbered, film_links, LiesAmong, pages_in};

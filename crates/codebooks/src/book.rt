@@ -1,12 +1,12 @@
-ghost use Rattle.std.specs.Prelude.{◌≡◌, ◌≤◌, ◌<◌, ◌+◌, length, take, drop, [], Some, None, IfSome, IfNone, IfOk, OnOk, OnSome, IsSome, is_some};
+ghost use Rattle.std.specs.Prelude.{◌≡◌, ◌≤◌, ◌<◌, ◌+◌, length, take, drop, [], Some, None, IfSome, IfNone, IfOk, OnOk, OnErr, OnSome, IsSome, is_some};
 ghost use Rattle.std.specs.List.{All};
 ghost use Rattle.model_fixed.specs.Fixed.{IsWithinLimit};
-ghost use Rattle.sequence.specs.Answers.{Answers};
+ghost use Rattle.memory.specs.Answers.{Answers};
 ghost use Rattle.model_setup.specs.Codewords.{book_words, entry_at};
 ghost use Rattle.model_setup.specs.Vectors.{vector_at};
 ghost use Rattle.model_setup.specs.BookReading.{front_at, length_list_at, lengths_at, book_at, multiplicands_of};
 ghost use Rattle.model_writing.specs.SetupWriting.{book_fields};
-ghost use Rattle.field_writing.specs.Puts.{ArePut, HavePlaces};
+ghost use Rattle.setup_fields.specs.Puts.{ArePut, HavePlaces, IsFrontOf};
 ghost use Rattle.codebooks.specs.Free.{IsLengthIfUsed};
 ghost use Rattle.codebooks.specs.Books.{IsTree};
 ghost use Rattle.codebooks.specs.Layouts.{AreLaid};
@@ -18,8 +18,8 @@ use crate::lengths::{read_ordered_lengths, read_unordered_lengths, write_lengths
 use crate::lookup::{VectorTable, read_lookup, write_lookup};
 use crate::word_table::WordTable;
 use bit_reader::{Bits, BitsOut, NoMemory};
-use field_writing::put_number;
 use model_setup::{BookFault, Budget, DIMENSION_LIMIT, ENTRY_LIMIT};
+use setup_fields::put_number;
 use std::alloc::{AllocError, Global};
 use std::marker::Model;
 
@@ -181,11 +181,12 @@ impl Book {
     }
 
     /// Writes the codebook behind the bits that were put before: not ordered, sparse exactly where
-    /// an entry is unused, and with multiplicands of 16 bits. Where no memory is found, the bits
-    /// are of no use.
+    /// an entry is unused, and with multiplicands of 16 bits. Where no memory is found, what was
+    /// put before stays in front.
     pub fn write(&self, out: &mut BitsOut) -> Result<(), NoMemory>
         requires { HavePlaces (book_fields self.now) }
-        ensures { OnOk result (ArePut out.old out.new (book_fields self.now)) }
+        ensures put { OnOk result (ArePut out.old out.new (book_fields self.now)) }
+        ensures kept { OnErr result (IsFrontOf out.old out.new) }
     {
         put_number(out, 24, SYNC)?;
         put_number(out, 16, u32::from(self.dimensions))?;

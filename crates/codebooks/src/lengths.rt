@@ -1,16 +1,16 @@
-ghost use Rattle.std.specs.Prelude.{◌≡◌, ◌≤◌, ◌<◌, ◌+◌, ◌-◌, ◌++◌, length, replicate, IfOk, IfSome, OnOk, Ok, Some};
+ghost use Rattle.std.specs.Prelude.{◌≡◌, ◌≤◌, ◌<◌, ◌+◌, ◌-◌, ◌++◌, length, replicate, IfOk, IfSome, OnOk, OnErr, Ok, Some};
 ghost use Rattle.std.specs.List.{All, flat_map};
 ghost use Rattle.model_bits.specs.Reading.{times};
-ghost use Rattle.sequence.specs.Answers.{Answers};
+ghost use Rattle.memory.specs.Answers.{Answers};
 ghost use Rattle.model_setup.specs.BookReading.{field, ilog, length_at, entry_length_at, runs_at, ordered_lengths_at, unordered_lengths_at};
 ghost use Rattle.model_writing.specs.SetupWriting.{is_sparse, entry_fields, length_fields};
-ghost use Rattle.field_writing.specs.Puts.{ArePut, HavePlaces};
+ghost use Rattle.setup_fields.specs.Puts.{ArePut, HavePlaces, IsFrontOf};
 ghost use Rattle.codebooks.specs.Free.{IsLength, IsLengthIfUsed};
 
 use crate::fields::read_field;
 use bit_reader::{Bits, BitsOut, NoMemory};
-use field_writing::{put_count, put_flag};
 use model_setup::BookFault;
+use setup_fields::{put_count, put_flag};
 use std::alloc::Global;
 
 /// Reads the length of a codeword.
@@ -160,7 +160,8 @@ fn is_sparse(lengths: &[Option<u8>]) -> bool
 /// Writes the length of an entry's codeword, behind the flag that a sparse book has for it.
 fn write_entry_length(out: &mut BitsOut, sparse: bool, len: Option<u8>) -> Result<(), NoMemory>
     requires { HavePlaces (entry_fields sparse len) }
-    ensures { OnOk result (ArePut out.old out.new (entry_fields sparse len)) }
+    ensures put { OnOk result (ArePut out.old out.new (entry_fields sparse len)) }
+    ensures kept { OnErr result (IsFrontOf out.old out.new) }
 {
     match (sparse, len) {
         (true, None) => put_flag(out, false),
@@ -180,7 +181,9 @@ fn write_entry_lengths(
     lengths: &[Option<u8>],
 ) -> Result<(), NoMemory>
     requires { HavePlaces (flat_map (entry_fields sparse) lengths.now) }
-    ensures { OnOk result (ArePut out.old out.new (flat_map (entry_fields sparse) lengths.now)) }
+    ensures put { OnOk result
+        (ArePut out.old out.new (flat_map (entry_fields sparse) lengths.now)) }
+    ensures kept { OnErr result (IsFrontOf out.old out.new) }
 {
     for len in lengths {
         write_entry_length(out, sparse, *len)?;
@@ -191,7 +194,8 @@ fn write_entry_lengths(
 /// Writes the lengths of a book, not in order, and sparse exactly where an entry is unused.
 pub fn write_lengths(out: &mut BitsOut, lengths: &[Option<u8>]) -> Result<(), NoMemory>
     requires { HavePlaces (length_fields lengths.now) }
-    ensures { OnOk result (ArePut out.old out.new (length_fields lengths.now)) }
+    ensures put { OnOk result (ArePut out.old out.new (length_fields lengths.now)) }
+    ensures kept { OnErr result (IsFrontOf out.old out.new) }
 {
     let sparse = is_sparse(lengths);
     put_flag(out, false)?;

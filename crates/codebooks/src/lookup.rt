@@ -1,13 +1,13 @@
-ghost use Rattle.std.specs.Prelude.{◌≡◌, ◌≤◌, ◌<◌, ◌^◌, ◌+◌, ◌*◌, ◌/◌, ◌+ℤ◌, unsigned_abs, map, length, IfOk, OnOk, IsSome, Some, nat_le, List, take};
+ghost use Rattle.std.specs.Prelude.{◌≡◌, ◌≤◌, ◌<◌, ◌^◌, ◌+◌, ◌*◌, ◌/◌, ◌+ℤ◌, unsigned_abs, map, length, IfOk, OnOk, OnErr, IsSome, Some, nat_le, List, take};
 ghost use Rattle.std.specs.List.{All};
 ghost use Rattle.model_bits.specs.Reading.{times};
 ghost use Rattle.model_fixed.specs.Fixed.{IsWithinLimit, limited};
-ghost use Rattle.sequence.specs.Answers.{Answers};
+ghost use Rattle.memory.specs.Answers.{Answers};
 ghost use Rattle.model_setup.specs.declared.book.LookupKind.{LookupKind};
 ghost use Rattle.model_setup.specs.BookReading.{field, table_at, lookup_at, multiplicands_of};
 ghost use Rattle.model_setup.specs.Vectors.{root_of, multiplicand_count, carried_on, vector_of};
 ghost use Rattle.model_writing.specs.SetupWriting.{lookup_type, lookup_fields};
-ghost use Rattle.field_writing.specs.Puts.{ArePut, HavePlaces};
+ghost use Rattle.setup_fields.specs.Puts.{ArePut, HavePlaces, IsFrontOf};
 ghost use Rattle.codebooks.specs.Units.{unit_of, factor_of};
 ghost use Rattle.codebooks.specs.Layouts.{AreVectors};
 ghost use Rattle.codebooks.specs.Tables.{HasRoom, IsWholeTable, IsWholeIfSome};
@@ -15,8 +15,8 @@ ghost use Rattle.codebooks.specs.Tables.{HasRoom, IsWholeTable, IsWholeIfSome};
 use crate::fields::read_field;
 use crate::fixed::{LIMIT, fix};
 use bit_reader::{Bits, BitsOut, NoMemory};
-use field_writing::{put_flag, put_number, put_words};
 use model_setup::{BookFault, ENTRY_LIMIT, LookupKind};
+use setup_fields::{put_flag, put_number, put_words};
 use std::alloc::{AllocError, Global};
 use std::marker::Model;
 
@@ -247,7 +247,8 @@ fn lookup_type(kind: LookupKind) -> u32
 /// Writes the table of a book, if it has one.
 pub fn write_lookup(out: &mut BitsOut, table: &Option<VectorTable>) -> Result<(), NoMemory>
     requires { HavePlaces (lookup_fields table.now) }
-    ensures { OnOk result (ArePut out.old out.new (lookup_fields table.now)) }
+    ensures put { OnOk result (ArePut out.old out.new (lookup_fields table.now)) }
+    ensures kept { OnErr result (IsFrontOf out.old out.new) }
 {
     match table {
         Some(table) => table.write(out),
@@ -259,7 +260,8 @@ impl VectorTable {
     /// Writes the table, with multiplicands of 16 bits.
     fn write(&self, out: &mut BitsOut) -> Result<(), NoMemory>
         requires { HavePlaces (lookup_fields (Some self.now)) }
-        ensures { OnOk result (ArePut out.old out.new (lookup_fields (Some self.now))) }
+        ensures put { OnOk result (ArePut out.old out.new (lookup_fields (Some self.now))) }
+        ensures kept { OnErr result (IsFrontOf out.old out.new) }
     {
         put_number(out, 4, lookup_type(self.kind))?;
         put_number(out, 32, self.minimum)?;

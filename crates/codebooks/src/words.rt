@@ -1,7 +1,7 @@
 ghost use Rattle.std.specs.Prelude.{◌≡◌, ◌≤◌, ◌<◌, ◌^◌, ◌+◌, ◌-◌, ℕ, length, slice_index_or, List, Option, Some, None, IfSome, IfNone, IfOk, OnOk, IfErr, ◌++◌, ◌∷◌, []};
 ghost use Rattle.std.specs.List.{All, AllPairs};
 ghost use Rattle.std.specs.Option.{ok_or};
-ghost use Rattle.sequence.specs.Answers.{Answers};
+ghost use Rattle.memory.specs.Answers.{Answers};
 ghost use Rattle.model_setup.specs.Codewords.{size_of, is_right, filled, words_behind, book_words, IsPlaced, AreApart};
 ghost use Rattle.codebooks.specs.Books.{IsTree, words_or_none};
 ghost use Rattle.codebooks.specs.Free.{FreeAt, Claim, Spaces, IsLength, IsLengthIfUsed};

@@ -1,6 +1,6 @@
 ghost use Rattle.std.specs.Prelude.{◌≡◌, ◌≤◌, ◌<◌, ◌+◌, ◌*◌, ◌/◌, ◌%◌, ◌^◌, length, unsigned_abs, None, IfOk};
 ghost use Rattle.std.specs.List.{All};
-ghost use Rattle.sequence.specs.Answers.{Answers};
+ghost use Rattle.memory.specs.Answers.{Answers};
 ghost use Rattle.model_setup.specs.HeaderPackets.{IsBlockSize};
 ghost use Rattle.model_synthesis.specs.declared.constants.TheConstants.{COSINE_COUNT, DECIBEL_COUNT, GREATEST_DECIBEL, SCALE, SLOPE_COUNT};
 ghost use Rattle.model_synthesis.specs.Tables.{AreTables, IsSlopeSize, decibel, slopes_before, slope, turn_of, cosq};

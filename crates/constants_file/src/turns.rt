@@ -3,8 +3,8 @@ ghost use Rattle.model_setup.specs.HeaderPackets.{IsBlockSize};
 ghost use Rattle.model_synthesis.specs.declared.constants.TheConstants.{COSINE_COUNT, SCALE};
 ghost use Rattle.model_synthesis.specs.Tables.{first_quarter, quarters, turn_of, turns_of};
 
+use memory::Sequence;
 use model_synthesis::COSINE_COUNT;
-use sequence::Sequence;
 use std::alloc::{AllocError, Global};
 
 /// The cosines of the odd numbers of steps of one turn.

@@ -11,14 +11,12 @@ use Rattle.model_line.specs.declared.item.Span.{Span}
 use Rattle.model_line.specs.declared.item.Item.{Item}
 use Rattle.model_line.specs.declared.item.Item.TheVariants as variants
 use Rattle.model_line.specs.Decode.{LineItem, frame, gap, frame_count}
-use Rattle.model_line.specs.Origins.{Origin, origin, listed}
-use Rattle.model_line.specs.Blocks.{Values}
+use Rattle.model_line.specs.Origins.{Origin, origin, listed, frame_by}
+use Rattle.model_line.specs.Blocks.{Values, Frame}
 use Rattle.model_line.specs.Index.{Indexed}
 use Rattle.film_index.specs.Items.{AreIndexItems}
 use Rattle.model_cursor.specs.declared.need.Need.{Need}
-use Rattle.model_cursor.specs.FrameLists.{Frame}
 use Rattle.model_cursor.specs.Runs.{run, run_at}
-use Rattle.model_cursor.specs.Laws.{frame_by}
 use Rattle.model_cursor.specs.Plans.{needs_between, read_needs}
 use Rattle.model_cursor.specs.Positions.{Position, IsPosition, gaps_before}
 use Rattle.model_cursor.specs.Sources.{Source, line_from, channels_in, SpanSuits, ItemSuits, Suits}

@@ -12,7 +12,7 @@ use Rattle.model_line.specs.Decode.{LineItem, frame, gap, frame_count, gap_count
 use Rattle.model_line.specs.Origins.{Origin, origins_of, listed}
 use Rattle.model_line.specs.Index.{Indexed}
 use Rattle.model_line.proofs.Counts.{frame_count-append}
-use Rattle.model_cursor.specs.FrameLists.{Frame}
+use Rattle.model_line.specs.Blocks.{Frame}
 use Rattle.model_cursor.specs.Runs.{frames_of_link, run, run_at}
 use Rattle.model_cursor.specs.Cursors.{CursorState, IsCursor, passed, place_after}
 use Rattle.model_cursor.specs.Positions.{Position, IsPosition, IsCursorIn, start_of, gaps_before, state_in}

@@ -4,8 +4,8 @@ use Rattle.std.specs.List.{range_with_len}
 use Rattle.std.proofs.lemmas.List.{drop_all}
 use Rattle.std.proofs.lemmas.List.Concat.{flat_map-append}
 use Rattle.std.proofs.lemmas.List.FromFn.{map-range_with_len_more}
-use Rattle.model_line.specs.Blocks.{Values}
-use Rattle.model_cursor.specs.FrameLists.{Frame, values_of}
+use Rattle.model_line.specs.Blocks.{Values, Frame}
+use Rattle.model_cursor.specs.FrameLists.{values_of}
 use Rattle.cursor.specs.declared.portions.Portion.{Portion}
 use Rattle.cursor.specs.Portions.{portion_frames, frames_from, FitsHalves, FitHalves}
 use Rattle.cursor.proofs.PortionSteps.{front}

@@ -5,7 +5,8 @@ use Rattle.std.proofs.lemmas.List.{length-take, drop_all}
 use Rattle.std.proofs.lemmas.List.Elements.{All-head, All-tail, All-append, All-take, All-drop}
 use Rattle.std.proofs.lemmas.List.Concat.{flat_map-append}
 use Rattle.std.proofs.Math.Seq.{take-length, take-nil, drop-nil, take-append-add, drop-append-add}
-use Rattle.model_cursor.specs.FrameLists.{Frame, frames_in, values_of}
+use Rattle.model_line.specs.Blocks.{Frame}
+use Rattle.model_cursor.specs.FrameLists.{frames_in, values_of}
 use Rattle.cursor.specs.Patches.{patched}
 use Rattle.cursor.specs.Portions.{HasChannels}
 use Rattle.cursor.proofs.ReadFrames.{length_values, count_of, frames_back}

@@ -12,7 +12,8 @@ use mir.Syntax.{w64, w128}
 use mir.Val.{SFits}
 use lib.Signed.{mag}
 use Rattle.model_synthesis.specs.Tables.{ConstantTables}
-use Rattle.model_cursor.specs.FrameLists.{Frame, values_of}
+use Rattle.model_line.specs.Blocks.{Frame}
+use Rattle.model_cursor.specs.FrameLists.{values_of}
 use Rattle.model_cursor.specs.Splices.{weight, mixed, mixed_frame, mixed_from}
 use Rattle.cursor.proofs.PortionSteps.{front}
 

@@ -15,13 +15,13 @@ use Rattle.model_line.specs.declared.item.Item.TheVariants as variants
 use Rattle.model_line.specs.declared.item.LinkFacts.{LinkFacts}
 use Rattle.model_line.specs.Decode.{LineItem, frame, gap, frame_count}
 use Rattle.model_line.specs.Origins.{origin, listed, HasFrame}
-use Rattle.model_line.specs.Blocks.{overlap_frame}
+use Rattle.model_line.specs.Blocks.{overlap_frame, Frame}
 use Rattle.model_line.specs.Index.{Indexed, IsWithin}
 use Rattle.film_index.specs.Items.{AreIndexItems}
 use Rattle.model_cursor.specs.declared.need.Need.{Need}
 use Rattle.model_cursor.specs.declared.reply.Reply.{Reply}
 use Rattle.model_cursor.specs.declared.reply.Reply.TheVariants as replies
-use Rattle.model_cursor.specs.FrameLists.{Frame, parts_of, frames_in, values_of}
+use Rattle.model_cursor.specs.FrameLists.{parts_of, frames_in, values_of}
 use Rattle.model_cursor.specs.Runs.{frames_of_link, run, run_at}
 use Rattle.model_cursor.specs.Cursors.{CursorState, passed, read, place_after}
 use Rattle.model_cursor.specs.Plans.{span_needs, meets, item_needs, needs_between, read_needs}

@@ -8,11 +8,10 @@ use Rattle.model_line.specs.declared.item.Span.{Span}
 use Rattle.model_line.specs.declared.item.Item.TheVariants as variants
 use Rattle.model_line.specs.Decode.{LineItem, frame}
 use Rattle.model_line.specs.Origins.{Origin, origin, listed}
-use Rattle.model_line.specs.Blocks.{Values}
+use Rattle.model_line.specs.Blocks.{Values, Frame}
 use Rattle.model_line.specs.Index.{Indexed}
 use Rattle.film_index.specs.Items.{AreIndexItems}
 use Rattle.model_cursor.specs.declared.reply.Reply.TheVariants as replies
-use Rattle.model_cursor.specs.FrameLists.{Frame}
 use Rattle.model_cursor.specs.Runs.{run_at}
 use Rattle.model_cursor.specs.Cursors.{CursorState, next_frames, passed, read}
 use Rattle.model_cursor.specs.Plans.{read_needs}

@@ -12,13 +12,12 @@ use Rattle.model_line.specs.declared.item.Item.TheVariants as variants
 use Rattle.model_line.specs.declared.item.LinkFacts.{LinkFacts}
 use Rattle.model_line.specs.Decode.{LineItem, frame, gap, frame_count}
 use Rattle.model_line.specs.Origins.{Origin, origins_of, item_frames, listed, line_of, HasFrame}
-use Rattle.model_line.specs.Blocks.{Values, overlap}
+use Rattle.model_line.specs.Blocks.{Values, overlap, Frame}
 use Rattle.model_line.specs.Index.{Indexed}
 use Rattle.film_index.specs.Items.{AreIndexItems}
 use Rattle.model_cursor.specs.declared.need.Need.{Need}
 use Rattle.model_cursor.specs.declared.reply.Sought.{Sought}
 use Rattle.model_cursor.specs.declared.reply.Sought.TheVariants as answers
-use Rattle.model_cursor.specs.FrameLists.{Frame}
 use Rattle.model_cursor.specs.Runs.{run_at}
 use Rattle.model_cursor.specs.Cursors.{CursorState, next_frames, place_after, old_side}
 use Rattle.model_cursor.specs.Plans.{shorts_of, splicing_of, read_needs, splice_needs}

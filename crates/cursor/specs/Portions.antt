@@ -6,11 +6,9 @@ use Rattle.model_line.specs.declared.item.Span.{Span}
 use Rattle.model_line.specs.declared.item.Item.{Item}
 use Rattle.model_line.specs.declared.item.Item.TheVariants as variants
 use Rattle.model_line.specs.Origins.{overlap_len}
-use Rattle.model_line.specs.Blocks.{Values, len_of, overlap_frame}
+use Rattle.model_line.specs.Blocks.{Values, len_of, overlap_frame, Frame, IsHalfBlock}
 use Rattle.model_cursor.specs.declared.need.Need.{Need}
-use Rattle.model_cursor.specs.FrameLists.{Frame}
 use Rattle.model_cursor.specs.Positions.{Position}
-use Rattle.model_cursor.specs.Sources.{IsHalfBlock}
 use Rattle.cursor.specs.declared.portions.Portion.{Portion}
 
 -- ---- which portions

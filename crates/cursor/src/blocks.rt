@@ -3,8 +3,8 @@ ghost use Rattle.std.specs.List.{All};
 ghost use Rattle.model_cursor.specs.declared.need.Need.{Need};
 
 use lap_window::HalfBlock;
+use memory::{NoMemory, Sequence};
 use model_cursor::Need;
-use sequence::{NoMemory, Sequence};
 use std::alloc::Global;
 
 /// Halves of blocks, in the order of a plan.

@@ -1,15 +1,14 @@
 ghost use Rattle.std.specs.Prelude.{◌≡◌, ◌+◌, ◌*◌, ◌<◌, ◌≤◌, ◌++◌, ℕ, length, drop, IfOk, OnOk};
 ghost use Rattle.std.specs.List.{All};
 ghost use Rattle.model_line.specs.Origins.{overlap_len};
-ghost use Rattle.model_line.specs.Blocks.{len_of, overlap_frame};
+ghost use Rattle.model_line.specs.Blocks.{len_of, overlap_frame, IsHalfBlock};
 ghost use Rattle.model_cursor.specs.FrameLists.{values_of};
-ghost use Rattle.model_cursor.specs.Sources.{IsHalfBlock};
 ghost use Rattle.cursor.specs.Portions.{portion_frames, frames_from, FitsHalves, FitHalves, HasChannels};
 
 use crate::portions::Portion;
 use lap_window::{HalfBlock, overlap};
+use memory::{NoMemory, Sequence};
 use model_cursor::Frames;
-use sequence::{NoMemory, Sequence};
 use std::alloc::Global;
 
 /// Adds the values of the frame of this number between two halves, one per channel.

@@ -17,8 +17,8 @@ use crate::position::Cursor;
 use constants_file::Constants;
 use film_index::Index;
 use lap_window::HalfBlock;
+use memory::NoMemory;
 use model_cursor::{Needs, Sought};
-use sequence::NoMemory;
 use std::alloc::Global;
 
 impl Cursor {

@@ -4,10 +4,10 @@ ghost use Rattle.model_cursor.specs.FrameLists.{values_of};
 ghost use Rattle.model_cursor.specs.Splices.{weight, mixed, mixed_frame, mixed_from};
 
 use constants_file::Constants;
+use memory::NoMemory;
 use model_cursor::Frames;
 use model_line::LARGEST_BLOCK;
 use model_synthesis::SMALLEST_SLOPE;
-use sequence::NoMemory;
 use std::alloc::Global;
 
 /// How many values the longest slope has, half as many as the longest block.

@@ -3,7 +3,7 @@ ghost use Rattle.std.specs.List.Sorted.{IsNonDecreasing};
 ghost use Rattle.granule_seek.specs.Places.{IsLastAtMost, AreAllAbove};
 ghost use Rattle.model_line.specs.Decode.{frame_count};
 ghost use Rattle.model_line.specs.Origins.{listed};
-ghost use Rattle.model_cursor.specs.FrameLists.{Frame};
+ghost use Rattle.model_line.specs.Blocks.{Frame};
 ghost use Rattle.model_cursor.specs.Cursors.{place_after};
 ghost use Rattle.model_cursor.specs.Positions.{start_of, gaps_before, IsPosition};
 

@@ -3,9 +3,9 @@ ghost use Rattle.std.specs.List.{All};
 ghost use Rattle.model_line.specs.Origins.{HasFrame};
 ghost use Rattle.cursor.specs.Portions.{cut, portions_on, portions_from, needs_of, HasNext};
 
+use memory::{NoMemory, Sequence};
 use model_cursor::{Need, Needs};
 use model_line::{Half, Item, Span};
-use sequence::{NoMemory, Sequence};
 use std::alloc::Global;
 
 /// Frames between a block and the next, from number `from` up to but not including `to`.

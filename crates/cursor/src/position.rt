@@ -22,8 +22,8 @@ use crate::place::item_behind;
 use crate::portions::{Portion, add_run};
 use film_index::{Index, Item, Span};
 use lap_window::HalfBlock;
+use memory::NoMemory;
 use model_cursor::{Frames, Sought};
-use sequence::NoMemory;
 use std::alloc::Global;
 use std::marker::Model;
 

@@ -15,8 +15,8 @@ use crate::position::Cursor;
 use constants_file::Constants;
 use film_index::{Index, Item, Span};
 use lap_window::HalfBlock;
+use memory::NoMemory;
 use model_cursor::{Needs, Reply, Sought, Task};
-use sequence::NoMemory;
 use std::alloc::Global;
 
 /// What a seek or a lap answers, as a reply.

@@ -2,8 +2,8 @@ ghost use Rattle.std.specs.Prelude.{◌≡◌, IfOk};
 ghost use Rattle.film_blocks.specs.KeyedBlocks.{half_of};
 
 use lap_window::HalfBlock;
+use memory::{NoMemory, Sequence};
 use model_line::Half;
-use sequence::{NoMemory, Sequence};
 use std::alloc::Global;
 use std::marker::Model;
 

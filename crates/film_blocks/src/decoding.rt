@@ -8,7 +8,7 @@ ghost use Rattle.film_blocks.specs.KeyedBlocks.{link_block};
 use crate::held::HeldLink;
 use block_decoding::{HalvedBlock, decode};
 use constants_file::Constants;
-use sequence::NoMemory;
+use memory::NoMemory;
 use setup_header::Setup;
 use std::alloc::Global;
 

@@ -4,8 +4,8 @@ ghost use Rattle.film_blocks.specs.Ends.{first_behind, EndBefore};
 ghost use Rattle.film_blocks.specs.Held.{blocks_in, held_ends};
 
 use crate::held::HeldLink;
+use memory::NoMemory;
 use model_line::MOST_ENTRIES;
-use sequence::NoMemory;
 use std::alloc::Global;
 
 /// For each link, how many blocks the film has up to and with it.

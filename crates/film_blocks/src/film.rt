@@ -1,6 +1,6 @@
 ghost use Rattle.std.specs.Prelude.{◌≡◌, ◌<◌, ◌^◌, length, map, Some, IfOk, vec_len, option_map};
 ghost use Rattle.std.specs.List.{slice_get};
-ghost use Rattle.sequence.specs.Answers.{Answers};
+ghost use Rattle.memory.specs.Answers.{Answers};
 ghost use Rattle.model_line.specs.Acceptance.{FilmLink, film_of};
 ghost use Rattle.model_line.specs.Blocks.{left_half, right_half};
 ghost use Rattle.model_line.specs.PacketRows.{rows_of, block_packets};
@@ -21,9 +21,9 @@ use block_decoding::HalvedBlock;
 use chain_links::links;
 use constants_file::Constants;
 use film_index::Index;
+use memory::NoMemory;
 use model_line::{FilmFault, LinkCounts};
 use ogg_pages::scan;
-use sequence::NoMemory;
 use setup_header::Setup;
 use std::alloc::Global;
 use std::marker::Model;

@@ -1,15 +1,15 @@
 ghost use Rattle.std.specs.Prelude.{◌≡◌, ◌<◌, ◌≤◌, ℕ, Some, List, length, drop, All, IfOk, is_some, option_map};
 ghost use Rattle.std.specs.Cow.{cow_slice_items};
-ghost use Rattle.sequence.specs.Answers.{Answers};
+ghost use Rattle.memory.specs.Answers.{Answers};
 ghost use Rattle.ogg_packets.specs.Entries.{items_of, EntryLiesBefore};
 ghost use Rattle.model_line.specs.LinkTests.{first_packet, headers_of};
 ghost use Rattle.film_blocks.specs.Headers.{packets_in, heads_by, heads_of, FitHeads};
 
 use head_packets::{comment, ident};
+use memory::NoMemory;
 use model_line::{FilmFault, MOST_CHANNELS};
 use model_setup::{IdentFields, SetupFault};
 use ogg_packets::KeptEntry;
-use sequence::NoMemory;
 use setup_header::Setup;
 use std::alloc::Global;
 use std::borrow::CowSlice;

@@ -4,10 +4,10 @@ ghost use Rattle.film_blocks.specs.Held.{link_in, IsHeld};
 
 use crate::headers::{after, packet_bytes};
 use block_decoding::BlockSizes;
+use memory::NoMemory;
 use model_line::LinkCounts;
 use model_setup::SetupFault;
 use ogg_packets::KeptEntry;
-use sequence::NoMemory;
 use setup_header::Setup;
 use std::alloc::Global;
 

@@ -19,9 +19,9 @@ pub use constants_file::Constants;
 pub use film::Film;
 pub use film_index::Index;
 pub use lap_window::HalfBlock;
+pub use memory::NoMemory;
 pub use model_line::{FilmFault, Half, LinkCounts, LinkFacts, MOST_CHANNELS, MOST_ENTRIES};
 pub use reel::Reel;
-pub use sequence::NoMemory;
 pub use setup_header::Setup;
 
 #[cfg(test)]

@@ -1,5 +1,5 @@
 ghost use Rattle.std.specs.Prelude.{◌≡◌, ◌+◌, ◌<◌, ◌≤◌, ◌^◌, ℕ, List, length, drop, count_by, All, IfOk};
-ghost use Rattle.sequence.specs.Answers.{Answers};
+ghost use Rattle.memory.specs.Answers.{Answers};
 ghost use Rattle.model_ogg.specs.Pages.{IsPageOf};
 ghost use Rattle.model_ogg.specs.Streams.{stream_of};
 ghost use Rattle.model_ogg.specs.Entries.{stream_items};
@@ -21,9 +21,9 @@ use crate::places::{HEADER_COUNT, block_places};
 use crate::rows::rows;
 use block_decoding::BlockSizes;
 use chain_links::{LinkPages, pages_in};
+use memory::NoMemory;
 use model_line::{FilmFault, LinkCounts, LinkRows, MOST_ENTRIES};
 use ogg_packets::{EntryFault, KeptEntry, PageRef, kept_packets, stream_len};
-use sequence::NoMemory;
 use std::alloc::Global;
 
 /// A link as it is kept, and its rows, of which the index is made.

@@ -1,8 +1,8 @@
 ghost use Rattle.std.specs.Prelude.{◌≡◌, ◌+◌, ◌<◌, ◌++◌, ◌^◌, length, IfOk};
 ghost use Rattle.film_blocks.specs.Places.{block_place, block_places};
 
+use memory::NoMemory;
 use model_line::{Row, RowKind, Rows};
-use sequence::NoMemory;
 use std::alloc::Global;
 
 /// How many header packets stand before a link's other entries.

@@ -7,7 +7,7 @@ use crate::block::Block;
 use crate::film::Film;
 use block_decoding::HalvedBlock;
 use constants_file::Constants;
-use sequence::NoMemory;
+use memory::NoMemory;
 use setup_header::Setup;
 use std::alloc::Global;
 

@@ -3,9 +3,9 @@ ghost use Rattle.ogg_packets.specs.Entries.{front_in, items_of, EntryLiesBefore}
 ghost use Rattle.model_line.specs.PacketRows.{kind_by_head, row_of};
 ghost use Rattle.film_blocks.specs.Fronts.{kind_by_front};
 
+use memory::NoMemory;
 use model_line::{Row, RowKind, Rows};
 use ogg_packets::{Front, KeptEntry};
-use sequence::NoMemory;
 use setup_header::{PacketHead, head};
 use std::alloc::Global;
 

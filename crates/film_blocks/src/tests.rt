@@ -1,9 +1,9 @@
 mod films;
 
 use super::*;
+use memory::Sequence;
 use model_setup::SetupCause;
 use model_synthesis::{CONSTANTS_WORD, COSINE_COUNT, DECIBEL_COUNT, SLOPE_COUNT};
-use sequence::Sequence;
 use std::alloc::Global;
 use std::process::Abort;
 use std::test::Fail;

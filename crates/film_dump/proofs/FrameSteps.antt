@@ -7,8 +7,8 @@ use Rattle.std.specs.Prelude.{◌<ℤ◌, neg_ℤ}
 use Rattle.std.proofs.lemmas.List.Concat.{flat_map-append}
 use Rattle.std.proofs.lemmas.List.FromFn.{map-range_with_len_more, take-map-range_with_len}
 use Rattle.model_line.specs.Decode.{LineItem, frame}
-use Rattle.model_cursor.specs.FrameLists.{Frame}
-use Rattle.model_film.specs.Dumps.{sample_bytes, frame_bytes}
+use Rattle.model_line.specs.Blocks.{Frame}
+use Rattle.model_line.specs.FrameBytes.{sample_bytes, frame_bytes}
 use Rattle.model_synthesis.specs.Samples.{pcm}
 use Rattle.model_synthesis.proofs.Nearest.{samples_have_16_bits}
 use Rattle.film_dump.specs.declared.fault.DumpFault.{DumpFault}

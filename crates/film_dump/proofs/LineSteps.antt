@@ -17,10 +17,8 @@ use Rattle.model_line.specs.Index.{IsWithin}
 use Rattle.model_line.specs.PacketRows.{sized_links}
 use Rattle.model_line.specs.declared.row.GapKind.{GapKind}
 use Rattle.model_line.specs.Acceptance.{FilmLink}
-use Rattle.model_line.specs.Blocks.{Values, len_of, overlap, overlap_frame, left_half, right_half}
-use Rattle.model_cursor.specs.FrameLists.{Frame}
-use Rattle.model_cursor.specs.Sources.{IsHalfBlock}
-use Rattle.model_cursor.proofs.ByOrigins.{window}
+use Rattle.model_line.specs.Blocks.{Values, len_of, overlap, overlap_frame, left_half, right_half, Frame, IsHalfBlock}
+use Rattle.model_line.proofs.Windows.{window}
 use Rattle.model_block.specs.FilmBlocks.{film_block}
 use Rattle.model_film.specs.Laws.{IsHalfOf, SpanFits, ItemFits, line_of_items}
 use Rattle.model_film.specs.Links.{IsLink}

@@ -5,7 +5,7 @@ use Rattle.std.proofs.KnownBytes.{Appends-nil, Appends-trans, Keeps-refl}
 use Rattle.std.specs.Io.KnownBytes.{Appends, Keeps}
 use Rattle.vf_outside.specs.Told.{AppendsPart}
 use Rattle.model_line.specs.Decode.{LineItem}
-use Rattle.model_cursor.specs.FrameLists.{Frame}
+use Rattle.model_line.specs.Blocks.{Frame}
 use Rattle.model_film.specs.Dumps.{item_bytes, line_bytes}
 use Rattle.film_dump.specs.declared.fault.DumpFault.{DumpFault}
 use Rattle.film_dump.specs.declared.fault.DumpFault.TheVariants as faults

@@ -8,9 +8,7 @@ use Rattle.vf_outside.specs.declared.sink.PutFault.TheVariants as put_faults
 use Rattle.model_line.specs.declared.item.Span.{Span}
 use Rattle.model_line.specs.Decode.{LineItem, frame}
 use Rattle.model_line.specs.Origins.{overlap_len}
-use Rattle.model_line.specs.Blocks.{Values, len_of, overlap_frame}
-use Rattle.model_cursor.specs.FrameLists.{Frame}
-use Rattle.model_cursor.specs.Sources.{IsHalfBlock}
+use Rattle.model_line.specs.Blocks.{Values, len_of, overlap_frame, Frame, IsHalfBlock}
 use Rattle.model_film.specs.Dumps.{line_bytes}
 use Rattle.film_dump.specs.declared.fault.DumpFault.{DumpFault}
 use Rattle.film_dump.specs.declared.fault.DumpFault.TheVariants as faults

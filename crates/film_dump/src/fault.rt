@@ -2,7 +2,7 @@ ghost use Rattle.std.specs.Prelude.{◌≡◌};
 ghost use Rattle.film_dump.specs.Dumps.{fault_of_put};
 ghost use Rattle.film_dump.specs.declared.fault.DumpFault.TheVariants.{Memory};
 
-use sequence::NoMemory;
+use memory::NoMemory;
 use std::alloc::AllocError;
 use thiserror::Error;
 use vf_outside::PutFault;

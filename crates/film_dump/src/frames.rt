@@ -1,16 +1,15 @@
 ghost use Rattle.std.specs.Prelude.{◌≡◌, ◌≤◌, ◌<◌, ◌*◌, ◌++◌, length, OnOk};
 ghost use Rattle.vf_outside.specs.Faults.{Rose};
 ghost use Rattle.model_line.specs.Origins.{overlap_len};
-ghost use Rattle.model_line.specs.Blocks.{len_of, overlap_frame};
-ghost use Rattle.model_cursor.specs.Sources.{IsHalfBlock};
-ghost use Rattle.model_film.specs.Dumps.{frame_bytes};
+ghost use Rattle.model_line.specs.Blocks.{len_of, overlap_frame, IsHalfBlock};
+ghost use Rattle.model_line.specs.FrameBytes.{frame_bytes};
 ghost use Rattle.film_dump.specs.Dumps.{FitsHalves, GoesOn, span_frames};
 
 use crate::fault::DumpFault;
 use crate::puts::put_many;
 use film_index::Span;
 use lap_window::{HalfBlock, overlap, pcm};
-use sequence::{NoMemory, Sequence};
+use memory::{NoMemory, Sequence};
 use vf_outside::Sink;
 
 /// Adds the samples of the frame of this number between two halves, channel after channel.

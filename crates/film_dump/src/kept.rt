@@ -5,7 +5,7 @@ ghost use Rattle.film_blocks.specs.KeyedBlocks.{keyed_block};
 ghost use Rattle.film_dump.specs.Kept.{IsKept};
 
 use film_blocks::{Block, Reel, Setup};
-use sequence::NoMemory;
+use memory::NoMemory;
 use std::alloc::Global;
 
 /// A block that was decoded, and the setup of its link, which has this number.

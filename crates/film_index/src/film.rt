@@ -10,8 +10,8 @@ ghost use Rattle.film_index.specs.Items.{AreIndexItems};
 
 use crate::listing::Listing;
 use crate::walk::Sizes;
+use memory::NoMemory;
 use model_line::{Item, LinkFacts, LinkRows, MOST_ENTRIES};
-use sequence::NoMemory;
 use std::alloc::Global;
 use std::marker::Model;
 

@@ -9,8 +9,8 @@ ghost use Rattle.film_index.specs.Listings.{IsListing, HasRoom, HasGrown, before
 
 use crate::cuts::cuts;
 use crate::walk::{Sizes, Walk};
+use memory::NoMemory;
 use model_line::{Cuts, GapKind, Item, RowKind, Rows, Span};
-use sequence::NoMemory;
 use std::alloc::Global;
 
 /// Items in order.

@@ -2,7 +2,7 @@ ghost use Rattle.std.specs.Prelude.{◌≡◌, ◌≤◌, IfOk, length};
 ghost use Rattle.film_index.specs.Bounds.{FitsLink};
 
 use super::*;
-use sequence::NoMemory;
+use memory::NoMemory;
 use std::alloc::Global;
 use std::test::Fail;
 
@@ -202,17 +202,6 @@ static CASES: [Case; 16] = [
     },
 ];
 
-/// These entries, as a link keeps them.
-fn rows_of(alloc: Global, rows: &[Row]) -> Result<Rows, NoMemory>
-    ensures { IfOk result (λ kept. kept ≡ rows.now) }
-{
-    let mut kept = Rows::with_capacity(alloc, rows.len())?;
-    for row in rows {
-        kept.push(*row)?;
-    }
-    Ok(kept)
-}
-
 /// A link with blocks of 64 and 256 and the first hundred of these entries.
 fn link_of(alloc: Global, rows: &[Row]) -> Result<LinkRows, NoMemory>
     ensures sizes { IfOk result FitsLink }
@@ -224,7 +213,7 @@ fn link_of(alloc: Global, rows: &[Row]) -> Result<LinkRows, NoMemory>
         rate: 8000,
         short: 64,
         long: 256,
-        rows: rows_of(alloc, rows)?,
+        rows: Rows::of(alloc, rows)?,
     })
 }
 

@@ -1,9 +1,9 @@
 -- The made setups as the program puts their fields (Vorbis I, section 4.2.4).
 use Rattle.std.specs.Prelude.{ℕ, ◌^◌, ◌<◌, ◌≤◌, List, [], ◌∷◌, ◌++◌, map, Bool, codes}
 use Rattle.std.specs.List.{flat_map}
-use Rattle.model_bits.specs.Writing.{WrittenField, bits_of_fields}
+use Rattle.model_bits.specs.Writing.{WrittenField, bits_of_fields, in_bits}
 use Rattle.model_setup.specs.ResidueSetup.{ResidueSetup}
-use Rattle.model_writing.specs.SetupWriting.{in_bits, counted_fields, book_fields, residue_type, residue_fields, mapping_fields, setup_fields}
+use Rattle.model_writing.specs.SetupWriting.{counted_fields, book_fields, residue_type, residue_fields, mapping_fields, setup_fields}
 use Rattle.model_trial.specs.MadeSetup.{floor_book, class_book, pair_book, fine_book, made_residue, made_mapping, made_setup}
 
 -- a number and how many bits it has, where it has a place in them

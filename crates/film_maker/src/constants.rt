@@ -3,8 +3,8 @@ ghost use Rattle.std.specs.List.{flat_map};
 ghost use Rattle.model_synthesis.specs.ConstantsFile.{constants_of};
 ghost use Rattle.model_trial.specs.MadeConstants.{number_bytes, made_decibel, made_decibels, made_slope, made_slope_table, made_slopes, made_cosine, made_cosines, made_constants, made_tables};
 
+use memory::NoMemory;
 use model_synthesis::{CONSTANTS_SIZE, CONSTANTS_WORD, COSINE_COUNT, DECIBEL_COUNT, SCALE};
-use sequence::NoMemory;
 use std::alloc::Global;
 
 /// The sizes of slopes, in the order of a constants file.

@@ -6,8 +6,8 @@ ghost use Rattle.film_maker.specs.Drawn.{drawn_packet, drawn_packets, made_link_
 
 use crate::draws::Draws;
 use crate::links::MadeLink;
+use memory::{NoMemory, Sequence};
 use model_trial::MADE_PACKETS;
-use sequence::{NoMemory, Sequence};
 use std::alloc::Global;
 
 /// A link of a made film, with what is drawn for it.

@@ -12,7 +12,7 @@ use crate::links::{MADE_LINKS, MadeLink};
 use crate::made_setup::make_setup;
 use crate::packet::packet_of;
 use crate::pages::{PageFront, put_audio, put_page};
-use sequence::{NoMemory, Sequence};
+use memory::{NoMemory, Sequence};
 use std::alloc::Global;
 
 /// The identification packet of a link: version 0, no bitrates, blocks of 64 and 256 values (Vorbis

@@ -17,5 +17,5 @@ mod tests;
 pub use constants::make_constants;
 pub use draws::Draws;
 pub use film::make_film;
+pub use memory::NoMemory;
 pub use script::make_script;
-pub use sequence::NoMemory;

@@ -10,7 +10,7 @@ ghost use Rattle.film_maker.specs.SetupTables.{IsField, table_bits, book_bits, r
 use crate::links::MadeLink;
 use crate::packet::packet_of;
 use bit_reader::BitsOut;
-use sequence::{NoMemory, Sequence};
+use memory::{NoMemory, Sequence};
 use setup_header::{Setup, SetupFault, setup_bytes};
 use std::alloc::Global;
 

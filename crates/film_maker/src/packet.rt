@@ -1,7 +1,7 @@
 ghost use Rattle.std.specs.Prelude.{◌≡◌, ◌<◌, IfOk};
 ghost use Rattle.std.specs.List.{All};
 
-use sequence::{NoMemory, Sequence};
+use memory::{NoMemory, Sequence};
 use std::alloc::Global;
 
 /// A packet of these bytes.

@@ -8,9 +8,9 @@ ghost use Rattle.film_maker.specs.Pages.{packet_page, audio_front, pages_of_audi
 
 use crate::drawn::DrawnLink;
 use crate::links::MadeLink;
+use memory::{NoMemory, Sequence};
 use model_trial::{MADE_LONG, MADE_PACKETS, MADE_SHORT, PACKETS_ON_PAGE};
 use ogg_pages::{PageOut, page_bytes};
-use sequence::{NoMemory, Sequence};
 use std::alloc::Global;
 
 /// How many audio pages a link has.

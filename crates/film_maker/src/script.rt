@@ -6,9 +6,9 @@ ghost use Rattle.model_trial.specs.MadeScript.{command_line, ended_line, lane_li
 
 use crate::draws::Draws;
 use itoa::Buffer;
+use memory::NoMemory;
 use model_script::{LINE_FEED, SPACE};
 use model_trial::{MADE_COMMANDS, MADE_LANES};
-use sequence::NoMemory;
 use std::alloc::Global;
 
 /// Writes bytes.

@@ -3,7 +3,8 @@ use Rattle.std.proofs.Common.{◌≡◌, ℕ, ◌+◌, ◌-◌, ◌^◌, ◌<◌
 use Rattle.std.specs.List.{All, refill}
 use Rattle.std.proofs.lemmas.List.{get_or-take, get_or-drop, get_or_default, set-append_left, set-append_right, take-append-drop, length-set, take_at, take_all, take_more, length-reverse, get_or-reverse}
 use Rattle.std.proofs.lemmas.List.Sums.{fold-append}
-use Rattle.model_setup.specs.SetupPacket.{Coupling, IsCoupling}
+use Rattle.model_setup.specs.declared.setup.Coupling.{Coupling}
+use Rattle.model_setup.specs.SetupPacket.{IsCoupling}
 use Rattle.std.proofs.lemmas.List.Elements.{All-set, All-from_get_or}
 use Rattle.std.proofs.lemmas.List.FromFn.{length-map-range_with_len, get_or-map-range_with_len}
 use Rattle.model_fixed.specs.Fixed.{IsWithinLimit}

@@ -4,8 +4,8 @@ ghost use Rattle.model_fixed.specs.Fixed.{IsWithinLimit};
 ghost use Rattle.model_synthesis.specs.Coupling.{first_of, second_of, first_channel, second_channel, channel, bin_count, AreChannels, without_step, without_steps};
 ghost use Rattle.model_setup.specs.SetupPacket.{IsCoupling};
 
-use sequence::Sequence;
-use setup_header::Coupling;
+use memory::Sequence;
+use model_setup::Coupling;
 
 /// The values of both channels in a bin. They are within the limit as the magnitude and the angle
 /// are, so that nothing is left to limit.

@@ -1,6 +1,6 @@
 ghost use Rattle.std.specs.Prelude.{◌≡◌, ◌*◌, length};
 ghost use Rattle.std.specs.List.{All};
-ghost use Rattle.half_sums.specs.HalfSums.{IsSum, half_sums};
+ghost use Rattle.half_sums.specs.HalfSums.{AreHalfSums};
 ghost use Rattle.model_setup.specs.HeaderPackets.{IsBlockSize};
 ghost use Rattle.model_synthesis.specs.Spectrum.{IsBin};
 
@@ -13,9 +13,7 @@ pub fn half_sums(constants: &Constants, spectrum: &[i64], sums: &mut [i64])
     requires size { IsBlockSize (2 * length spectrum.now) }
     requires sums { length sums.old ≡ length spectrum.now }
     requires bins { All IsBin spectrum.now }
-    ensures values { sums.new
-        ≡ half_sums constants.now (2 * length spectrum.now) spectrum.now }
-    ensures small { All IsSum sums.new }
+    ensures { AreHalfSums constants.now.cosines spectrum.now sums.new }
 {
     constants.transforms().half_sums(spectrum, sums);
 }

@@ -3,11 +3,11 @@ use Rattle.std.specs.Prelude.{◌≡◌, ℕ, ◌-◌, ◌<◌, ◌≤◌, ◌^�
 use Rattle.std.specs.List.{AllPairs, flat_map, range_with_len}
 use Rattle.std.specs.List.Sorted.{IsPermutation}
 use Rattle.model_bits.specs.Reading.{with_front}
-use Rattle.model_bits.specs.Writing.{WrittenField}
+use Rattle.model_bits.specs.Writing.{WrittenField, in_bits}
 use Rattle.model_setup.specs.declared.floor.TheConstants.{MOST_POINTS}
 use Rattle.model_setup.specs.FloorSetup.{ArePoints}
 use Rattle.model_setup.specs.FloorCurve.{low_neighbour, high_neighbour}
-use Rattle.model_writing.specs.SetupWriting.{in_bits, range_bits}
+use Rattle.model_writing.specs.SetupWriting.{range_bits}
 use Rattle.floor_one.specs.declared.points.Neighbours.{Neighbours}
 use Rattle.floor_one.specs.declared.points.Position.{Position}
 

@@ -1,16 +1,16 @@
-ghost use Rattle.std.specs.Prelude.{◌≡◌, ◌≤◌, ◌<◌, length, IfOk, OnOk, IfSome, is_some, nat_lt};
+ghost use Rattle.std.specs.Prelude.{◌≡◌, ◌≤◌, ◌<◌, length, IfOk, OnOk, OnErr, IfSome, is_some, nat_lt};
 ghost use Rattle.std.specs.List.{All, flat_map};
 ghost use Rattle.model_bits.specs.Reading.{leaving, times};
 ghost use Rattle.model_setup.specs.FloorSetup.{IsFloorClass, NamesBooks};
 ghost use Rattle.model_setup.specs.FloorReading.{master_at, class_at, subclass_book_at};
 ghost use Rattle.model_writing.specs.SetupWriting.{subclass_book_fields, class_fields};
-ghost use Rattle.field_writing.specs.Puts.{ArePut, HavePlaces};
+ghost use Rattle.setup_fields.specs.Puts.{ArePut, HavePlaces, IsFrontOf};
 
 use crate::fields::{read_book, read_field, read_subclass_book};
 use arrayvec::ArrayVec;
 use bit_reader::{Bits, BitsOut, NoMemory};
-use field_writing::{put_book, put_count, put_number};
 use model_setup::FloorFault;
+use setup_fields::{put_book, put_count, put_number};
 use std::marker::Model;
 
 /// A class of a floor's partitions (Vorbis I, section 7.2.2).
@@ -95,7 +95,8 @@ pub fn read_class(bits: &mut Bits, books: u32) -> Result<Class, FloorFault>
 /// Writes the book of a subclass, or that it has none.
 fn write_subclass_book(out: &mut BitsOut, book: Option<u8>) -> Result<(), NoMemory>
     requires { HavePlaces (subclass_book_fields book) }
-    ensures { OnOk result (ArePut out.old out.new (subclass_book_fields book)) }
+    ensures put { OnOk result (ArePut out.old out.new (subclass_book_fields book)) }
+    ensures kept { OnErr result (IsFrontOf out.old out.new) }
 {
     match book {
         Some(book) => put_number(out, 8, u32::from(book) + 1),
@@ -106,7 +107,8 @@ fn write_subclass_book(out: &mut BitsOut, book: Option<u8>) -> Result<(), NoMemo
 /// Writes the books of subclasses.
 fn write_subclass_books(out: &mut BitsOut, books: &[Option<u8>]) -> Result<(), NoMemory>
     requires { HavePlaces (flat_map subclass_book_fields books.now) }
-    ensures { OnOk result (ArePut out.old out.new (flat_map subclass_book_fields books.now)) }
+    ensures put { OnOk result (ArePut out.old out.new (flat_map subclass_book_fields books.now)) }
+    ensures kept { OnErr result (IsFrontOf out.old out.new) }
 {
     for book in books {
         write_subclass_book(out, *book)?;
@@ -118,7 +120,8 @@ impl Class {
     /// Writes the class.
     pub fn write(&self, out: &mut BitsOut) -> Result<(), NoMemory>
         requires { HavePlaces (class_fields self.now) }
-        ensures { OnOk result (ArePut out.old out.new (class_fields self.now)) }
+        ensures put { OnOk result (ArePut out.old out.new (class_fields self.now)) }
+        ensures kept { OnErr result (IsFrontOf out.old out.new) }
     {
         put_count(out, 3, u32::from(self.dimensions))?;
         put_number(out, 2, u32::from(self.subclass_bits))?;

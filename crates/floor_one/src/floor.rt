@@ -1,19 +1,19 @@
-ghost use Rattle.std.specs.Prelude.{◌≡◌, ◌≤◌, ◌<◌, ◌*◌, length, IfOk, OnOk};
+ghost use Rattle.std.specs.Prelude.{◌≡◌, ◌≤◌, ◌<◌, ◌*◌, length, IfOk, OnOk, OnErr};
 ghost use Rattle.std.specs.List.{All, flat_map};
 ghost use Rattle.model_bits.specs.Reading.{leaving, times};
 ghost use Rattle.model_setup.specs.FloorSetup.{IsFloorClass, NamesBooks, FloorNamesBooks, ArePoints, IsFloor, class_count, value_count};
 ghost use Rattle.model_setup.specs.FloorReading.{floor_field, partition_classes_at, class_at, floor_at};
 ghost use Rattle.model_setup.specs.FloorPacket.{range_of};
 ghost use Rattle.model_writing.specs.SetupWriting.{class_fields, floor_fields};
-ghost use Rattle.field_writing.specs.Puts.{ArePut, HavePlaces};
+ghost use Rattle.setup_fields.specs.Puts.{ArePut, HavePlaces, IsFrontOf};
 
 use crate::class::{Class, read_class};
 use crate::fields::read_field;
 use crate::points::{Points, read_points};
 use arrayvec::ArrayVec;
 use bit_reader::{Bits, BitsOut, NoMemory};
-use field_writing::{put_bytes, put_count, put_number};
 use model_setup::FloorFault;
+use setup_fields::{put_bytes, put_count, put_number};
 use std::marker::Model;
 
 /// A floor of type 1: how the values of its points are read from a packet, and where the points
@@ -122,7 +122,8 @@ fn value_count(partitions: &[u8], classes: &[Class]) -> u32
 /// Writes classes.
 fn write_classes(out: &mut BitsOut, classes: &[Class]) -> Result<(), NoMemory>
     requires { HavePlaces (flat_map class_fields classes.now) }
-    ensures { OnOk result (ArePut out.old out.new (flat_map class_fields classes.now)) }
+    ensures put { OnOk result (ArePut out.old out.new (flat_map class_fields classes.now)) }
+    ensures kept { OnErr result (IsFrontOf out.old out.new) }
 {
     for class in classes {
         class.write(out)?;
@@ -153,11 +154,12 @@ impl Floor {
         })
     }
 
-    /// Writes the floor behind the bits that were put before. Where no memory is found, the bits
-    /// are of no use.
+    /// Writes the floor behind the bits that were put before. Where no memory is found, what
+    /// was put before stays in front.
     pub fn write(&self, out: &mut BitsOut) -> Result<(), NoMemory>
         requires { HavePlaces (floor_fields self.now) }
-        ensures { OnOk result (ArePut out.old out.new (floor_fields self.now)) }
+        ensures put { OnOk result (ArePut out.old out.new (floor_fields self.now)) }
+        ensures kept { OnErr result (IsFrontOf out.old out.new) }
     {
         put_number(out, 5, self.partitions.len() as u32)?;
         put_bytes(out, 4, &self.partitions)?;

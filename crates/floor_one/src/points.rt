@@ -1,4 +1,4 @@
-ghost use Rattle.std.specs.Prelude.{◌≡◌, ◌≤◌, ◌<◌, ◌^◌, ◌+◌, length, IfOk, OnOk};
+ghost use Rattle.std.specs.Prelude.{◌≡◌, ◌≤◌, ◌<◌, ◌^◌, ◌+◌, length, IfOk, OnOk, OnErr};
 ghost use Rattle.model_bits.specs.Reading.{leaving, times};
 ghost use Rattle.model_setup.specs.declared.floor.TheConstants.{MOST_POINTS};
 ghost use Rattle.model_setup.specs.FloorSetup.{is_distinct, ArePoints};
@@ -6,13 +6,13 @@ ghost use Rattle.model_setup.specs.FloorReading.{floor_field, x_values_at};
 ghost use Rattle.model_setup.specs.FloorCurve.{low_neighbour, high_neighbour};
 ghost use Rattle.floor_one.specs.Points.{AreEnds, AreInOrder, neighbours_of, point_fields, positions_of, with_ends};
 ghost use Rattle.model_writing.specs.SetupWriting.{range_bits};
-ghost use Rattle.field_writing.specs.Puts.{ArePut, HavePlaces};
+ghost use Rattle.setup_fields.specs.Puts.{ArePut, HavePlaces, IsFrontOf};
 
 use crate::fields::read_field;
 use arrayvec::ArrayVec;
 use bit_reader::{Bits, BitsOut, NoMemory};
-use field_writing::{put_number, put_words};
 use model_setup::{FloorFault, MOST_POINTS};
+use setup_fields::{put_number, put_words};
 use std::marker::Model;
 
 /// The numbers of the points nearest to a point, below and above it, among those before it
@@ -213,7 +213,8 @@ impl Points {
     /// Writes the range, and the bins of the points behind the first two.
     pub fn write(&self, out: &mut BitsOut) -> Result<(), NoMemory>
         requires { HavePlaces (point_fields self.now) }
-        ensures { OnOk result (ArePut out.old out.new (point_fields self.now)) }
+        ensures put { OnOk result (ArePut out.old out.new (point_fields self.now)) }
+        ensures kept { OnErr result (IsFrontOf out.old out.new) }
     {
         let width = self.range_bits();
         put_number(out, 4, width)?;

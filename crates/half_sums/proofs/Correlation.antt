@@ -4,14 +4,14 @@ use Rattle.std.proofs.Math.Nat.{pow-zero, pow-suc, mod-mod}
 use Rattle.std.proofs.Math.IntN.{neg_ℤ-neg_ℤ}
 use Rattle.std.proofs.lemmas.Nat.{pow-add, pow_pos}
 use Rattle.std.proofs.lemmas.Bool.{cases_lt}
-use Rattle.prime_field.specs.declared.TheConstants.{PRIME}
-use Rattle.prime_field.specs.Residues.{residue_of}
-use Rattle.model_transform.specs.Products.{shifted, product}
+use Rattle.number_transform.specs.declared.field.TheConstants.{PRIME}
+use Rattle.number_transform.specs.Field.{residue_of}
+use Rattle.number_transform.specs.Products.{shifted, product}
 use Rattle.model_synthesis.specs.Tables.{wave}
 use Rattle.model_synthesis.specs.Transform.{sum_below}
-use Rattle.prime_field.proofs.Congruences.{mul_same}
-use Rattle.model_transform.proofs.Totals.{total_mod, total_same}
-use Rattle.model_transform.proofs.Folding.{shifted_before, shifted_after}
+use Rattle.number_transform.proofs.Congruences.{mul_same}
+use Rattle.number_transform.proofs.Totals.{total_mod, total_same}
+use Rattle.number_transform.proofs.Folding.{shifted_before, shifted_after}
 use Rattle.model_synthesis.proofs.Waves.{wave_turns, wave_halves}
 use Rattle.half_sums.proofs.Powers.{high_power, odd_power, odd_product}
 use Rattle.half_sums.proofs.LineSums.{sum_over_powers}

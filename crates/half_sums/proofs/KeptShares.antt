@@ -2,7 +2,7 @@
 use Rattle.std.proofs.Common.{◌≡◌, ◌≢◌, ℕ, suc, ◌+◌, ◌*◌, ◌<◌, ◌≤◌, ◌∙◌, sym, ap, subst, List, length, get_or, set, inl, inr, arith}
 use Rattle.std.proofs.lemmas.Bool.{cases_lt, cases_eq}
 use Rattle.std.proofs.lemmas.List.{get_or-set_same, get_or-set_other}
-use Rattle.model_transform.proofs.Totals.{total_same}
+use Rattle.number_transform.proofs.Totals.{total_same}
 use Rattle.half_sums.specs.Shares.{share_sum}
 
 -- what is written behind shares leaves their sum

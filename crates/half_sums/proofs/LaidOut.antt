@@ -5,8 +5,8 @@ use Rattle.std.proofs.Math.Nat.{pow-suc}
 use Rattle.std.proofs.lemmas.Nat.{pow_pos}
 use Rattle.std.proofs.lemmas.Bool.{cases_lt}
 use Rattle.model_setup.specs.HeaderPackets.{IsBlockSize}
-use Rattle.model_transform.proofs.RemainderLaws.{length-remainders}
-use Rattle.polynomial_product.specs.Factors.{factor_of}
+use Rattle.number_transform.proofs.RemainderLaws.{length-remainders}
+use Rattle.number_transform.specs.Factors.{factor_of}
 use Rattle.half_sums.specs.declared.block.Block.{Block}
 use Rattle.half_sums.specs.Blocks.{IsBlockFor}
 use Rattle.half_sums.specs.Layouts.{IsLaidOut}

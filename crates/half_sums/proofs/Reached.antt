@@ -3,7 +3,7 @@ use Rattle.std.proofs.Common.{◌≡◌, ◌⊎◌, ℕ, zero, suc, ◌+◌, ◌
 use Rattle.std.proofs.Math.Nat.{pow-zero, div-add-mod'}
 use Rattle.std.proofs.lemmas.Nat.{pow-add}
 use Rattle.std.proofs.lemmas.Bool.{cases_eq}
-use Rattle.prime_field.proofs.Congruences.{same_mod}
+use Rattle.number_transform.proofs.Congruences.{same_mod}
 use Rattle.half_sums.proofs.Powers.{odd_power, high_power, moved, twice}
 
 -- with one residue modulo m, two numbers have one modulo 2 m, or are m apart there

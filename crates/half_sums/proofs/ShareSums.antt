@@ -3,7 +3,7 @@ use Rattle.std.proofs.Common.{◌≡◌, ℕ, zero, suc, ◌+◌, ◌-◌, ◌*�
 use Rattle.std.proofs.lemmas.Int.{ints}
 use Rattle.std.proofs.Math.IntN.{+ℤ_comm, suc_ℤ-*ℤ, neg_ℤ-neg_ℤ}
 use Rattle.std.proofs.Math.Nat.{mul-one}
-use Rattle.model_transform.specs.Products.{total}
+use Rattle.number_transform.specs.Products.{total}
 use Rattle.model_synthesis.specs.declared.constants.TheConstants.{SCALE}
 use Rattle.model_synthesis.specs.Tables.{ConstantTables, wave, first_quarter}
 use Rattle.model_synthesis.specs.Transform.{sum_below}

@@ -4,11 +4,11 @@ use Rattle.std.proofs.Math.Nat.{mod-mod, mod-lt, mod-eq_of_lt}
 use Rattle.std.proofs.Math.IntN.{sub_ℕ}
 use Rattle.std.proofs.lemmas.Int.{ints}
 use Rattle.std.proofs.lemmas.Bool.{cases_lt, lt-ltb, le-ltb, cond-true, cond-false}
-use Rattle.prime_field.specs.declared.TheConstants.{PRIME}
-use Rattle.prime_field.specs.Residues.{residue_of, SmallNumbersDiffer}
-use Rattle.model_transform.specs.Products.{total}
+use Rattle.number_transform.specs.declared.field.TheConstants.{PRIME}
+use Rattle.number_transform.specs.Field.{residue_of, SmallNumbersDiffer}
+use Rattle.number_transform.specs.Products.{total}
 use Rattle.model_synthesis.specs.Transform.{sum_below}
-use Rattle.prime_field.proofs.Congruences.{same_mod, add_same, mul_same}
+use Rattle.number_transform.proofs.Congruences.{same_mod, add_same, mul_same}
 
 -- a natural number that has the residue
 whole : ℤ → ℕ

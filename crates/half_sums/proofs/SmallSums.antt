@@ -7,7 +7,7 @@ use Rattle.model_synthesis.specs.declared.limits.TheConstants.{SPECTRUM_LIMIT}
 use Rattle.model_synthesis.specs.Tables.{ConstantTables, first_quarter, cosq}
 use Rattle.model_synthesis.specs.Transform.{steps_of, sum_at}
 use Rattle.model_synthesis.proofs.Waves.{wave_small}
-use Rattle.half_sums.specs.HalfSums.{IsSum, half_sums, half_place}
+use Rattle.half_sums.specs.HalfSums.{IsSum, AreHalfSums, half_sums, half_place}
 use Rattle.half_sums.specs.Places.{AreBins}
 use Rattle.half_sums.specs.Blocks.{AreCosines}
 use Rattle.half_sums.proofs.Bounds.{sum_bound, product_bound}
@@ -39,9 +39,17 @@ same_cosines : (cosines : List ℕ) → (with_cosines cosines).cosines ≡ cosin
 unfolding with_cosines
 same_cosines cosines = refl
 
--- sums that are the half sums under all tables with these cosines
-pub sums_small : (cosines cosines' : List ℕ) (sums spectrum : List ℤ) (size : ℕ) → AreCosines cosines → cosines ≡ cosines' → AreBins spectrum → size ≤ 8192
+sums_small : (cosines cosines' : List ℕ) (sums spectrum : List ℤ) (size : ℕ) → AreCosines cosines → cosines ≡ cosines' → AreBins spectrum → size ≤ 8192
     → ((tables : ConstantTables) → tables.cosines ≡ cosines' → sums ≡ half_sums tables size spectrum) → All IsSum sums
 sums_small cosines cosines' sums spectrum size are same bins few values =
     subst (All IsSum) (sym (values (with_cosines cosines) (same_cosines cosines ∙ same)))
     (half_sums_small (with_cosines cosines) (subst AreCosines (sym (same_cosines cosines)) are) spectrum bins size few)
+
+-- sums that are right under all tables with these cosines are the half sums, since they are small
+pub half_sums_are : (cosines cosines' : List ℕ) (sums spectrum : List ℤ) (size : ℕ) → AreCosines cosines → cosines ≡ cosines' → AreBins spectrum → size ≤ 8192
+    → 2 * length spectrum ≡ size
+    → ((tables : ConstantTables) → tables.cosines ≡ cosines' → sums ≡ half_sums tables size spectrum) → AreHalfSums cosines' spectrum sums
+half_sums_are cosines cosines' sums spectrum size are same bins few whole values = record {
+  values = λ tables there. subst (λ n. sums ≡ half_sums tables n spectrum) (sym whole) (values tables there);
+  small = sums_small cosines cosines' sums spectrum size are same bins few values;
+}

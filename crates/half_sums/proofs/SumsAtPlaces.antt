@@ -2,9 +2,9 @@
 use Rattle.std.proofs.Common.{◌≡◌, ℕ, ◌+◌, ◌-◌, ◌*◌, ◌/◌, ◌%◌, ◌^◌, ◌<◌, ◌≤◌, ◌∙◌, sym, ap, subst, arith, ℤ, pos, ◌*ℤ◌, unsigned_abs, false, List, map, slice_index, slice_index_or, slice_get, Some, length, get_or}
 use Rattle.std.specs.List.{range_with_len}
 use Rattle.std.proofs.lemmas.List.FromFn.{fill_by_all, get_or-map-range_with_len}
-use Rattle.prime_field.specs.declared.TheConstants.{PRIME}
-use Rattle.prime_field.specs.Residues.{residue_of}
-use Rattle.model_transform.specs.Products.{product, product_list}
+use Rattle.number_transform.specs.declared.field.TheConstants.{PRIME}
+use Rattle.number_transform.specs.Field.{residue_of}
+use Rattle.number_transform.specs.Products.{product, product_list}
 use Rattle.model_synthesis.specs.declared.constants.TheConstants.{SCALE}
 use Rattle.model_synthesis.specs.declared.limits.TheConstants.{SPECTRUM_LIMIT}
 use Rattle.model_synthesis.specs.Tables.{ConstantTables, first_quarter}

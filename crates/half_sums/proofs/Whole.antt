@@ -3,15 +3,15 @@ use Rattle.std.proofs.Common.{◌≡◌, ◌⊎◌, ℕ, zero, suc, ◌+◌, ◌
 use Rattle.std.proofs.Math.Nat.{pow-suc, mod-eq_of_lt, div-add-mod'}
 use Rattle.std.proofs.lemmas.Nat.{pow-add, mul-mod_first}
 use Rattle.std.proofs.lemmas.Bool.{cases_lt, cases_eq}
-use Rattle.prime_field.specs.declared.TheConstants.{PRIME}
-use Rattle.prime_field.specs.Residues.{residue_of}
-use Rattle.model_transform.specs.Products.{shifted, product}
+use Rattle.number_transform.specs.declared.field.TheConstants.{PRIME}
+use Rattle.number_transform.specs.Field.{residue_of}
+use Rattle.number_transform.specs.Products.{shifted, product}
 use Rattle.model_synthesis.specs.Tables.{wave, first_quarter}
 use Rattle.model_synthesis.specs.Transform.{sum_below}
 use Rattle.half_sums.specs.declared.block.TheConstants.{BIN_STEP, SUM_STEP}
 use Rattle.half_sums.specs.Blocks.{cosine_at}
-use Rattle.prime_field.proofs.Congruences.{same_mod}
-use Rattle.model_transform.proofs.Totals.{total_same}
+use Rattle.number_transform.proofs.Congruences.{same_mod}
+use Rattle.number_transform.proofs.Totals.{total_same}
 use Rattle.half_sums.specs.declared.places.Place.{Place}
 use Rattle.half_sums.specs.Places.{signed, IsNear, IsSumPlace, sum_index, sum_step}
 use Rattle.model_synthesis.proofs.Waves.{wave_rest}

@@ -1,10 +1,10 @@
 -- What is laid out for blocks of one size.
 use Rattle.std.specs.Prelude.{ℕ, ◌≡◌, ◌*◌, ◌%◌, ◌^◌, ◌≤◌, ◌<◌, ℤ, pos, ◌+ℤ◌, List, length, map, slice_get, slice_index, Some}
 use Rattle.std.specs.List.{range_with_len}
-use Rattle.prime_field.specs.Residues.{residue_of}
+use Rattle.number_transform.specs.Field.{residue_of}
 use Rattle.model_synthesis.specs.declared.constants.TheConstants.{COSINE_COUNT, SCALE}
 use Rattle.model_synthesis.specs.Tables.{wave, first_quarter}
-use Rattle.polynomial_product.specs.Factors.{factor_of}
+use Rattle.number_transform.specs.Factors.{factor_of}
 use Rattle.half_sums.specs.declared.block.TheConstants.{BIN_STEP, SUM_STEP, SHORT_LEVELS}
 use Rattle.half_sums.specs.declared.block.Block.{Block}
 use Rattle.half_sums.specs.declared.places.Place.{Place}

@@ -1,6 +1,6 @@
 -- Half of a block's sums, of which the others follow.
-use Rattle.std.specs.Prelude.{ℕ, ◌+◌, ◌/◌, ◌^◌, ◌≤◌, ℤ, unsigned_abs, nat_lt, if◌then◌else◌, List, map}
-use Rattle.std.specs.List.{range_with_len}
+use Rattle.std.specs.Prelude.{ℕ, ◌≡◌, ◌+◌, ◌*◌, ◌/◌, ◌^◌, ◌≤◌, ℤ, unsigned_abs, nat_lt, if◌then◌else◌, List, length, map}
+use Rattle.std.specs.List.{All, range_with_len}
 use Rattle.model_synthesis.specs.Tables.{ConstantTables}
 use Rattle.model_synthesis.specs.Transform.{sum_at}
 
@@ -16,3 +16,12 @@ IsSum sum = unsigned_abs sum ≤ 2 ^ 62
 unfoldable pub half_sums : ConstantTables → ℕ → List ℤ → List ℤ
 half_sums tables size spectrum =
     map (λ j. sum_at tables size spectrum (half_place size j)) (range_with_len 0 (size / 2))
+
+-- These are the half sums of a spectrum, with the cosines of a quarter turn: those that the plain
+-- sum of the inverse transform gives by all tables that have these cosines, each within its limit.
+pub record AreHalfSums (cosines : List ℕ) (spectrum sums : List ℤ) : Type 0 where
+  pub values :
+      (tables : ConstantTables)
+      → tables.cosines ≡ cosines
+      → sums ≡ half_sums tables (2 * length spectrum) spectrum
+  pub small : All IsSum sums

@@ -1,6 +1,6 @@
 -- What the bins of a short block add to its sums.
 use Rattle.std.specs.Prelude.{ℕ, ◌+◌, ◌-◌, ◌*◌, ℤ, pos, negsuc, List, slice_index, slice_index_or}
-use Rattle.model_transform.specs.Products.{total}
+use Rattle.number_transform.specs.Products.{total}
 use Rattle.half_sums.specs.declared.places.Place.{Place}
 use Rattle.half_sums.specs.Places.{signed}
 

@@ -1,10 +1,10 @@
 ghost use Rattle.std.specs.Prelude.{◌≡◌, ◌≤◌, ◌<◌, ◌^◌, ◌*◌, ◌-◌, ℕ, ℤ, pos, length, slice_get, slice_index, slice_index_or, unsigned_abs};
-ghost use Rattle.prime_field.specs.declared.TheConstants.{PRIME};
-ghost use Rattle.prime_field.specs.Residues.{residue_of};
+ghost use Rattle.number_transform.specs.declared.field.TheConstants.{PRIME};
+ghost use Rattle.number_transform.specs.Field.{residue_of};
 ghost use Rattle.half_sums.specs.Places.{signed, AreBins};
 
 use crate::places::{Place, with_sign};
-use prime_field::{from_signed, to_signed};
+use number_transform::{from_signed, to_signed};
 
 /// The residue of the bin at a place.
 #[inline]

@@ -1,5 +1,5 @@
 ghost use Rattle.std.specs.Prelude.{◌≡◌, ◌≤◌, ◌<◌, ◌+◌, ◌*◌, ◌%◌, ◌^◌, ◌+ℤ◌, ℕ, ℤ, pos, List, length, slice_get, slice_index, slice_index_or, unsigned_abs, Some};
-ghost use Rattle.model_transform.specs.Products.{total};
+ghost use Rattle.number_transform.specs.Products.{total};
 ghost use Rattle.model_synthesis.specs.declared.limits.TheConstants.{SPECTRUM_LIMIT};
 ghost use Rattle.half_sums.specs.declared.places.Place.{Place};
 ghost use Rattle.half_sums.specs.Places.{signed, AreBins};

@@ -1,12 +1,12 @@
 ghost use Rattle.std.specs.Prelude.{◌≡◌, ◌≤◌, ◌<◌, ◌+◌, ◌*◌, ◌/◌, ◌%◌, ◌^◌, ◌+ℤ◌, ℕ, pos, unsigned_abs, IfOk};
 ghost use Rattle.model_synthesis.specs.declared.constants.TheConstants.{SCALE};
-ghost use Rattle.polynomial_product.specs.Factors.{factor_of};
+ghost use Rattle.number_transform.specs.Factors.{factor_of};
 ghost use Rattle.half_sums.specs.Blocks.{AreCosines, AreWaves, AreBinPlaces, AreSumPlaces, IsBlockFor, cosine_list, size_of};
 
 use crate::block::{BIN_STEP, Block, SHORT_LEVELS, SUM_STEP};
 use crate::places::{Place, bin_place, cosine, cosine_residue, sum_place};
 use model_synthesis::SCALE;
-use polynomial_product::Multiplier;
+use number_transform::Multiplier;
 use std::alloc::{AllocError, Global};
 
 /// How many values a block of 2^levels bins has.

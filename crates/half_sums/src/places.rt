@@ -1,12 +1,12 @@
 ghost use Rattle.std.specs.Prelude.{◌≡◌, ◌≤◌, ◌<◌, ◌+◌, ◌-◌, ◌*◌, ◌/◌, ◌%◌, ◌^◌, ℕ, ℤ, length, slice_index, unsigned_abs};
-ghost use Rattle.prime_field.specs.declared.TheConstants.{PRIME};
-ghost use Rattle.prime_field.specs.Residues.{residue_of};
+ghost use Rattle.number_transform.specs.declared.field.TheConstants.{PRIME};
+ghost use Rattle.number_transform.specs.Field.{residue_of};
 ghost use Rattle.model_synthesis.specs.declared.constants.TheConstants.{COSINE_COUNT, SCALE};
 ghost use Rattle.model_synthesis.specs.Tables.{wave, first_quarter};
 ghost use Rattle.half_sums.specs.Places.{signed, IsNear, IsBinPlace, IsSumPlace, IsTurn};
 
 use model_synthesis::COSINE_COUNT;
-use prime_field::from_signed;
+use number_transform::from_signed;
 
 /// A place among the bins or the sums of a block, and whether what stands there counts with its
 /// sign changed.

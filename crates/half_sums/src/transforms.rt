@@ -1,10 +1,8 @@
 ghost use Rattle.std.specs.Prelude.{◌≡◌, ◌≤◌, ◌*◌, ◌^◌, length, IfOk, IsTrue};
-ghost use Rattle.std.specs.List.{All};
 ghost use Rattle.model_setup.specs.HeaderPackets.{IsBlockSize};
-ghost use Rattle.model_synthesis.specs.Tables.{ConstantTables};
-ghost use Rattle.half_sums.specs.HalfSums.{IsSum, half_sums};
+ghost use Rattle.half_sums.specs.HalfSums.{AreHalfSums};
 ghost use Rattle.half_sums.specs.Places.{AreBins};
-ghost use Rattle.half_sums.specs.Blocks.{AreCosines, size_of};
+ghost use Rattle.half_sums.specs.Blocks.{AreCosines};
 ghost use Rattle.half_sums.specs.declared.block.TheConstants.{SHORT_LEVELS};
 ghost use Rattle.half_sums.specs.declared.transforms.TheConstants.{LEAST_LEVELS, MOST_LEVELS};
 
@@ -14,7 +12,7 @@ use crate::lanes::{gather_shares, place_sums, share_sums, whole_magnitude};
 use crate::making::make_block;
 use crate::silence::{is_silent, silence};
 use model_synthesis::SCALE;
-use polynomial_product::Multiplier;
+use number_transform::Multiplier;
 use std::alloc::{AllocError, Global};
 use std::marker::Model;
 
@@ -88,9 +86,7 @@ impl Transforms {
         requires spectrum { length spectrum.now ≡ 2 ^ levels }
         requires sums { length sums.old ≡ 2 ^ levels }
         requires bins { AreBins spectrum.now }
-        ensures values { (tables : ConstantTables) → tables.cosines ≡ self.now
-            → sums.new ≡ half_sums tables (size_of levels) spectrum.now }
-        ensures small { All IsSum sums.new }
+        ensures { AreHalfSums self.now spectrum.now sums.new }
     {
         let block = &self.blocks[(levels - LEAST_LEVELS) as usize];
         gather(values, spectrum, &block.bins);
@@ -106,9 +102,7 @@ impl Transforms {
         requires spectrum { length spectrum.now ≡ 2 ^ levels }
         requires sums { length sums.old ≡ 2 ^ levels }
         requires bins { AreBins spectrum.now }
-        ensures values { (tables : ConstantTables) → tables.cosines ≡ self.now
-            → sums.new ≡ half_sums tables (size_of levels) spectrum.now }
-        ensures small { All IsSum sums.new }
+        ensures { AreHalfSums self.now spectrum.now sums.new }
     {
         let block = &self.blocks[(levels - LEAST_LEVELS) as usize];
         let count = spectrum.len();
@@ -128,9 +122,7 @@ impl Transforms {
         requires spectrum { length spectrum.now ≡ 2 ^ levels }
         requires sums { length sums.old ≡ 2 ^ levels }
         requires bins { AreBins spectrum.now }
-        ensures values { (tables : ConstantTables) → tables.cosines ≡ self.now
-            → sums.new ≡ half_sums tables (size_of levels) spectrum.now }
-        ensures small { All IsSum sums.new }
+        ensures { AreHalfSums self.now spectrum.now sums.new }
     {
         let mut scratch = [0u64; 5 << SHORT_LEVELS];
         self.lanes_over(levels, &mut scratch[..5 * spectrum.len()], spectrum, sums);
@@ -143,9 +135,7 @@ impl Transforms {
         requires spectrum { length spectrum.now ≡ 2 ^ levels }
         requires sums { length sums.old ≡ 2 ^ levels }
         requires bins { AreBins spectrum.now }
-        ensures values { (tables : ConstantTables) → tables.cosines ≡ self.now
-            → sums.new ≡ half_sums tables (size_of levels) spectrum.now }
-        ensures small { All IsSum sums.new }
+        ensures { AreHalfSums self.now spectrum.now sums.new }
     {
         let mut scratch = [0u64; 1 << SHORT_LEVELS];
         self.sums_over(levels, &mut scratch[..spectrum.len()], spectrum, sums);
@@ -158,9 +148,7 @@ impl Transforms {
         requires spectrum { length spectrum.now ≡ 2 ^ levels }
         requires sums { length sums.old ≡ 2 ^ levels }
         requires bins { AreBins spectrum.now }
-        ensures values { (tables : ConstantTables) → tables.cosines ≡ self.now
-            → sums.new ≡ half_sums tables (size_of levels) spectrum.now }
-        ensures small { All IsSum sums.new }
+        ensures { AreHalfSums self.now spectrum.now sums.new }
     {
         let mut scratch = [0u64; 1 << MOST_LEVELS];
         self.sums_over(levels, &mut scratch[..spectrum.len()], spectrum, sums);
@@ -174,9 +162,7 @@ impl Transforms {
         requires spectrum { length spectrum.now ≡ 2 ^ levels }
         requires sums { length sums.old ≡ 2 ^ levels }
         requires bins { AreBins spectrum.now }
-        ensures values { (tables : ConstantTables) → tables.cosines ≡ self.now
-            → sums.new ≡ half_sums tables (size_of levels) spectrum.now }
-        ensures small { All IsSum sums.new }
+        ensures { AreHalfSums self.now spectrum.now sums.new }
     {
         if levels <= SHORT_LEVELS {
             self.short_product(levels, spectrum, sums);
@@ -190,9 +176,7 @@ impl Transforms {
         requires size { IsBlockSize (2 * length spectrum.now) }
         requires sums { length sums.old ≡ length spectrum.now }
         requires bins { AreBins spectrum.now }
-        ensures values { (tables : ConstantTables) → tables.cosines ≡ self.now
-            → sums.new ≡ half_sums tables (2 * length spectrum.now) spectrum.now }
-        ensures small { All IsSum sums.new }
+        ensures { AreHalfSums self.now spectrum.now sums.new }
     {
         let levels = spectrum.len().ilog2();
         if in_lanes(levels, spectrum) {
@@ -208,9 +192,7 @@ impl Transforms {
         requires size { IsBlockSize (2 * length spectrum.now) }
         requires sums { length sums.old ≡ length spectrum.now }
         requires bins { AreBins spectrum.now }
-        ensures values { (tables : ConstantTables) → tables.cosines ≡ self.now
-            → sums.new ≡ half_sums tables (2 * length spectrum.now) spectrum.now }
-        ensures small { All IsSum sums.new }
+        ensures { AreHalfSums self.now spectrum.now sums.new }
     {
         if is_silent(spectrum) {
             silence(sums);

@@ -1,7 +1,7 @@
 -- Fields that are written one after the other (Vorbis I, section 2.1), and that what is written is
 -- read.
-use Rattle.std.specs.Prelude.{◌≡◌, ℕ, ◌-◌, ◌%◌, ◌^◌, ◌<◌, List, [], ◌∷◌, ◌++◌, length, map, replicate, Ok, Bool, false, All}
-use Rattle.model_bits.specs.Bits.{bits_of, bits_of_number}
+use Rattle.std.specs.Prelude.{◌≡◌, ℕ, ◌-◌, ◌%◌, ◌^◌, ◌<◌, List, [], ◌∷◌, ◌++◌, length, map, replicate, Ok, Bool, false, All, ◌==◌, if◌then◌else◌, Option, Some, None}
+use Rattle.model_bits.specs.Bits.{bit_value, bits_of, bits_of_number}
 use Rattle.model_bits.specs.Reading.{Reading, each, packet_bits, without_rest}
 
 -- a field that is to be written: a number, and how many bits it has
@@ -12,6 +12,28 @@ pub record WrittenField : Type 0 where
 -- the number has a place in so many bits
 abbrev pub HasPlace : WrittenField → Type 0
 HasPlace field = field.number < 2 ^ field.width
+
+-- a number in so many bits
+abbrev pub in_bits : ℕ → ℕ → List WrittenField
+in_bits width number = record { number = number; width = width } ∷ []
+
+-- a flag
+abbrev pub flag : Bool → List WrittenField
+flag b = in_bits 1 (bit_value b)
+
+-- a count, which stands there less one
+abbrev pub count_in_bits : ℕ → ℕ → List WrittenField
+count_in_bits width count = in_bits width (count - 1)
+
+-- a count behind a flag, which isn't set where it is the other count
+abbrev pub flagged_count : ℕ → ℕ → ℕ → List WrittenField
+flagged_count width other count =
+    if count == other then in_bits 1 0 else in_bits 1 1 ++ count_in_bits width count
+
+-- a number of 8 bits, where there is one
+abbrev pub optional_byte : Option ℕ → List WrittenField
+optional_byte None = []
+optional_byte (Some number) = in_bits 8 number
 
 -- the bits of fields, of each the lowest first
 abbrev pub bits_of_fields : List WrittenField → List Bool

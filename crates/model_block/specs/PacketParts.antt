@@ -9,7 +9,8 @@ use Rattle.model_setup.specs.FloorSetup.{FloorSetup}
 use Rattle.model_setup.specs.FloorCurve.{floor_finals, curve_at}
 use Rattle.model_setup.specs.ResidueSetup.{ResidueSetup}
 use Rattle.model_setup.specs.ResidueDecoding.{residue_vectors}
-use Rattle.model_setup.specs.SetupPacket.{Coupling, Submap, Mapping, SetupFields}
+use Rattle.model_setup.specs.declared.setup.Coupling.{Coupling}
+use Rattle.model_setup.specs.SetupPacket.{Submap, Mapping, SetupFields}
 
 -- ---- the floor and the residue of a channel, by its submap
 

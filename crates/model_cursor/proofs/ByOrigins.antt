@@ -1,19 +1,17 @@
 -- The line by halves of blocks is the line by origins, each origin standing for its frame.
-use Rattle.std.proofs.Common.{◌≡◌, ℕ, zero, suc, ◌+◌, ◌-◌, ◌*◌, ◌≤◌, ◌<◌, nat_eq, true, false, cond, List, [], ◌∷◌, map, take, drop, refl, ap, sym, ◌∙◌, arith, zero-add}
+use Rattle.std.proofs.Common.{◌≡◌, ℕ, ◌+◌, ◌-◌, ◌*◌, ◌≤◌, ◌<◌, nat_eq, true, false, cond, List, [], ◌∷◌, map, take, drop, refl, ap, sym, ◌∙◌, arith}
 use Rattle.std.specs.Prelude.{slice_range}
 use Rattle.std.specs.List.{All, range_with_len}
 use Rattle.std.proofs.lemmas.List.{map-append}
-use Rattle.std.proofs.lemmas.List.FromFn.{take-map-range_with_len}
+use Rattle.model_line.proofs.Windows.{window}
 use Rattle.std.proofs.lemmas.List.Elements.{All-head, All-tail}
 use Rattle.model_line.specs.declared.item.Item.{Item}
 use Rattle.model_line.specs.declared.item.Item.TheVariants as variants
 use Rattle.model_line.specs.declared.item.LinkFacts.{LinkFacts}
 use Rattle.model_line.specs.Decode.{LineItem, frame, gap}
-use Rattle.model_line.specs.Origins.{Origin, origin, origins_of, listed, item_frames, line_of, overlap_len, HasFrame}
-use Rattle.model_line.specs.Blocks.{Values, len_of, overlap_frame, overlap}
-use Rattle.model_cursor.specs.FrameLists.{Frame}
+use Rattle.model_line.specs.Origins.{Origin, origin, origins_of, listed, item_frames, line_of, overlap_len, HasFrame, frame_by}
+use Rattle.model_line.specs.Blocks.{Values, len_of, overlap_frame, overlap, Frame}
 use Rattle.model_cursor.specs.Runs.{frames_of_link, run}
-use Rattle.model_cursor.specs.Laws.{frame_by}
 use Rattle.model_cursor.specs.Sources.{Source, right_of, left_of, line_from, ItemSuits}
 
 -- the frame of an origin
@@ -21,18 +19,6 @@ abbrev pub frame_of : Source → Origin → Frame
 frame_of source o = overlap_frame (right_of source o.first) (left_of source o.second) o.number
 
 -- ---- spans
-
--- a window of the frames of numbers from one on
-range_window : {A : Type 0} (f : ℕ → A) (m n from count : ℕ) → from + count ≤ n → take count (drop from (map f (range_with_len m n))) ≡ map f (range_with_len (m + from) count)
-range_window f m n zero count h = let e : m + 0 ≡ m = omega arith in rw e (take-map-range_with_len f m n count (omega arith))
-range_window f m zero (suc from) zero h = refl
-range_window f m zero (suc from) (suc count) h = absurd (omega arith)
-range_window f m (suc n) (suc from) count h =
-    let e : m + 1 + from ≡ m + suc from = omega arith in
-    rw (sym e) (range_window f (m + 1) n from count (omega arith))
-
-pub window : {A : Type 0} (f : ℕ → A) (n from to : ℕ) → from ≤ to → to ≤ n → slice_range (map f (range_with_len 0 n)) from to ≡ map f (range_with_len from (to - from))
-window f n from to le within = range_window f 0 n from (to - from) (omega arith) ∙ ap (λ (k : ℕ). map f (range_with_len k (to - from))) (zero-add from)
 
 span_values : (source : Source) (link first second : ℕ) (ns : List ℕ) → map (frame link) (map (overlap_frame (right_of source first) (left_of source second)) ns) ≡ map (frame_by (frame_of source)) (map (frame link) (map (origin first second) ns))
 span_values source link first second [] = refl

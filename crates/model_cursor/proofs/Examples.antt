@@ -11,7 +11,8 @@ use Rattle.model_cursor.specs.declared.need.Need.{Need}
 use Rattle.model_cursor.specs.declared.need.Task.TheVariants.{Read}
 use Rattle.model_cursor.specs.declared.reply.Reply.TheVariants as replies
 use Rattle.model_cursor.specs.declared.reply.Sought.TheVariants as answers
-use Rattle.model_cursor.specs.FrameLists.{Frame, parts_of, frames_in}
+use Rattle.model_line.specs.Blocks.{Frame}
+use Rattle.model_cursor.specs.FrameLists.{parts_of, frames_in}
 use Rattle.model_cursor.specs.Runs.{frames_of_link, run}
 use Rattle.model_cursor.specs.Cursors.{CursorState, start, tell, next_frames, read, place_after, seek, old_side}
 use Rattle.model_cursor.specs.Plans.{needs_between, needs}

@@ -7,7 +7,6 @@ pub mod Counting
 pub mod Standing
 pub mod Shapes
 pub mod ByOrigins
-pub mod ChannelReads
 pub mod Examples
 pub mod Mixing
 pub mod SpliceParts

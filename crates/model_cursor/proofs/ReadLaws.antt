@@ -4,7 +4,7 @@ use Rattle.std.proofs.lemmas.List.{length-take, drop-drop}
 use Rattle.model_line.specs.Decode.{LineItem, frame, gap, frame_count}
 use Rattle.model_cursor.specs.declared.reply.Sought.{Sought}
 use Rattle.model_cursor.specs.declared.reply.Sought.TheVariants as answers
-use Rattle.model_cursor.specs.FrameLists.{Frame}
+use Rattle.model_line.specs.Blocks.{Frame}
 use Rattle.model_cursor.specs.Runs.{run, run_at}
 use Rattle.model_cursor.specs.Cursors.{CursorState, IsCursor, next_frames, passed, read_of, read, placed, seek}
 use Rattle.model_cursor.specs.Laws.{ReadsGoOn, RunsGoOnBehindPatches, StatesStayCursors}

@@ -1,12 +1,12 @@
 -- Seeks and tells read no frame of a line.
 use Rattle.std.proofs.Common.{◌≡◌, ℕ, zero, suc, ◌+◌, nat_lt, cond, List, [], ◌∷◌, map, take, refl, ap, ◌∙◌}
 use Rattle.model_line.specs.Decode.{LineItem, frame, gap, frame_count}
-use Rattle.model_line.specs.Origins.{Origin}
+use Rattle.model_line.specs.Origins.{Origin, frame_by}
 use Rattle.model_cursor.specs.declared.reply.Sought.{Sought}
 use Rattle.model_cursor.specs.declared.reply.Sought.TheVariants as answers
-use Rattle.model_cursor.specs.FrameLists.{Frame}
+use Rattle.model_line.specs.Blocks.{Frame}
 use Rattle.model_cursor.specs.Cursors.{CursorState, place_after, seek}
-use Rattle.model_cursor.specs.Laws.{frame_by, SeeksByOrigins}
+use Rattle.model_cursor.specs.Laws.{SeeksByOrigins}
 
 frame_count-shape : (value : Origin → Frame) (xs : List (LineItem Origin)) → frame_count (map (frame_by value) xs) ≡ frame_count xs
 unfolding frame_count

@@ -6,7 +6,7 @@ use Rattle.model_line.specs.declared.row.GapKind.TheVariants as kinds
 use Rattle.model_line.specs.Decode.{LineItem, frame, gap, frame_count}
 use Rattle.model_cursor.specs.declared.reply.Reply.TheVariants as replies
 use Rattle.model_cursor.specs.declared.reply.Sought.TheVariants as answers
-use Rattle.model_cursor.specs.FrameLists.{Frame}
+use Rattle.model_line.specs.Blocks.{Frame}
 use Rattle.model_cursor.specs.Runs.{frames_of_link, run}
 use Rattle.model_cursor.specs.Cursors.{CursorState, start, next_frames, read, place_after, seek, old_side}
 use Rattle.model_cursor.specs.Splices.{Splicing, splice_len, mixed_frame, mixed_from, splice, lap, crossed}

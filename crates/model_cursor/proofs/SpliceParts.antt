@@ -6,7 +6,7 @@ use Rattle.model_synthesis.specs.Tables.{ConstantTables}
 use Rattle.model_line.specs.Decode.{LineItem, frame_count}
 use Rattle.model_cursor.specs.declared.reply.Sought.{Sought}
 use Rattle.model_cursor.specs.declared.reply.Sought.TheVariants as answers
-use Rattle.model_cursor.specs.FrameLists.{Frame}
+use Rattle.model_line.specs.Blocks.{Frame}
 use Rattle.model_cursor.specs.Runs.{run_at}
 use Rattle.model_cursor.specs.Cursors.{CursorState, IsCursor, next_frames, place_after, seek, old_side}
 use Rattle.model_cursor.specs.Splices.{Splicing, splice_len, weight, mixed, mixed_frame, mixed_from, splice, lap}

@@ -5,7 +5,7 @@ use Rattle.model_cursor.specs.declared.reply.Reply.{Reply}
 use Rattle.model_cursor.specs.declared.reply.Reply.TheVariants as replies
 use Rattle.model_cursor.specs.declared.reply.Sought.{Sought}
 use Rattle.model_cursor.specs.declared.reply.Sought.TheVariants as answers
-use Rattle.model_cursor.specs.FrameLists.{Frame}
+use Rattle.model_line.specs.Blocks.{Frame}
 use Rattle.model_cursor.specs.Runs.{run_at}
 
 -- A cursor: how many items of the line are before it, and its patch, the frames that are given in

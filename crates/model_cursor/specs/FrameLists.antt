@@ -1,10 +1,7 @@
 -- Lists of frames.
 use Rattle.std.specs.Prelude.{ℕ, zero, suc, ◌/◌, List, [], ◌∷◌, length, take, drop, ℤ}
 use Rattle.std.specs.List.{flat_map}
-
--- a frame: one value per channel, in units of 2^-20
-abbrev pub Frame : Type 0
-Frame = List ℤ
+use Rattle.model_line.specs.Blocks.{Frame}
 
 -- so many parts of a list, one after the other, each of this length
 unfoldable pub parts_of : {A : Type 0} → ℕ → ℕ → List A → List (List A)

@@ -1,8 +1,8 @@
 -- What holds of every cursor.
 use Rattle.std.specs.Prelude.{◌≡◌, ◌≢◌, ℕ, ◌≤◌, ◌<◌, List, [], ◌∷◌, ◌++◌, length, map, drop}
 use Rattle.model_line.specs.Decode.{LineItem, frame, gap, frame_count}
-use Rattle.model_line.specs.Origins.{Origin}
-use Rattle.model_cursor.specs.FrameLists.{Frame}
+use Rattle.model_line.specs.Origins.{Origin, frame_by}
+use Rattle.model_line.specs.Blocks.{Frame}
 use Rattle.model_cursor.specs.Runs.{frames_of_link, run_at}
 use Rattle.model_cursor.specs.Cursors.{CursorState, IsCursor, frames_before, tell, next_frames, passed, read, place_after, seek}
 
@@ -40,11 +40,6 @@ SeeksGoToTheLeastPlace = (line : List (LineItem Frame)) (frames : ℕ) → frame
 abbrev pub StatesStayCursors : Type 0
 StatesStayCursors = (line : List (LineItem Frame)) (s : CursorState) (frames : ℕ) → IsCursor line s
     → IsCursor line (read line frames s).1 × IsCursor line (seek line frames s).1
-
--- an item whose frame is another value
-abbrev pub frame_by : (Origin → Frame) → LineItem Origin → LineItem Frame
-frame_by value (frame link origin) = frame link (value origin)
-frame_by value (gap link kind) = gap link kind
 
 -- Whatever the frames of a line are, seeks and tells are those of the line by origins.
 abbrev pub SeeksByOrigins : Type 0

@@ -17,7 +17,7 @@ use Rattle.model_cursor.specs.declared.reply.Reply.{Reply}
 use Rattle.model_cursor.specs.declared.reply.Reply.TheVariants as replies
 use Rattle.model_cursor.specs.declared.reply.Sought.{Sought}
 use Rattle.model_cursor.specs.declared.reply.Sought.TheVariants as answers
-use Rattle.model_cursor.specs.FrameLists.{Frame}
+use Rattle.model_line.specs.Blocks.{Frame}
 use Rattle.model_cursor.specs.Runs.{run_at}
 use Rattle.model_cursor.specs.Cursors.{CursorState, frames_before, read, place_after}
 use Rattle.model_cursor.specs.Splices.{Splicing, splice_len, lap}

@@ -6,7 +6,7 @@ use Rattle.model_line.specs.declared.item.Item.{Item}
 use Rattle.model_line.specs.Decode.{frame_count, gap_count}
 use Rattle.model_line.specs.Origins.{origins_of, listed}
 use Rattle.model_line.specs.Index.{Indexed}
-use Rattle.model_cursor.specs.FrameLists.{Frame}
+use Rattle.model_line.specs.Blocks.{Frame}
 use Rattle.model_cursor.specs.Cursors.{CursorState, IsCursor}
 use Rattle.model_cursor.specs.Sources.{channels_in}
 use Rattle.model_cursor.specs.Splices.{link_at}

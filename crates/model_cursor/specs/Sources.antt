@@ -10,10 +10,9 @@ use Rattle.model_line.specs.declared.item.Item.TheVariants as variants
 use Rattle.model_line.specs.declared.item.LinkFacts.{LinkFacts}
 use Rattle.model_line.specs.Decode.{LineItem}
 use Rattle.model_line.specs.Origins.{overlap_len, line_of}
-use Rattle.model_line.specs.Blocks.{Values, len_of, overlap}
+use Rattle.model_line.specs.Blocks.{Values, len_of, overlap, Frame, IsHalfBlock}
 use Rattle.model_line.specs.Index.{Indexed}
 use Rattle.model_cursor.specs.declared.need.Need.{Need}
-use Rattle.model_cursor.specs.FrameLists.{Frame}
 
 -- what each half of a film's blocks is
 abbrev pub Source : Type 0
@@ -30,15 +29,6 @@ abbrev pub line_from : Source → List Item → List (LineItem Frame)
 line_from source items = line_of overlap (right_of source) (left_of source) items
 
 -- ---- halves that suit an index
-
--- A half of a block of so many channels: each has as many values as the first, half as many as a
--- block has, and they are within their limit.
-pub record IsHalfBlock (channels : ℕ) (half : Values) : Type 0 where
-  pub some : 0 < channels
-  pub count : length half ≡ channels
-  pub size : IsBlockSize (2 * len_of half)
-  pub sizes : All (λ values. length values ≡ len_of half) half
-  pub small : All (All IsBlockValue) half
 
 -- how many channels the link of this number has
 abbrev pub channels_in : List LinkFacts → ℕ → ℕ

@@ -3,7 +3,7 @@ use Rattle.std.specs.Prelude.{◌≡◌, ℕ, ◌^◌, ◌≤◌, ◌<◌, min, 
 use Rattle.std.specs.Int.{int_min, int_max}
 use Rattle.model_synthesis.specs.Tables.{ConstantTables, AreTables}
 use Rattle.model_line.specs.Decode.{LineItem}
-use Rattle.model_cursor.specs.FrameLists.{Frame}
+use Rattle.model_line.specs.Blocks.{Frame}
 use Rattle.model_cursor.specs.Runs.{run_at}
 use Rattle.model_cursor.specs.Cursors.{CursorState, IsCursor, next_frames, place_after, seek}
 use Rattle.model_cursor.specs.Splices.{Splicing, splice_len, weight, mixed, splice, lap, crossed}

@@ -6,7 +6,7 @@ use Rattle.model_synthesis.specs.Tables.{ConstantTables, slope}
 use Rattle.model_line.specs.Decode.{LineItem, frame, gap, frame_count}
 use Rattle.model_cursor.specs.declared.reply.Sought.{Sought}
 use Rattle.model_cursor.specs.declared.reply.Sought.TheVariants as answers
-use Rattle.model_cursor.specs.FrameLists.{Frame}
+use Rattle.model_line.specs.Blocks.{Frame}
 use Rattle.model_cursor.specs.Runs.{run_at}
 use Rattle.model_cursor.specs.Cursors.{CursorState, place_after, old_side}
 

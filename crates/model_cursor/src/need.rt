@@ -1,5 +1,5 @@
+use memory::Sequence;
 use model_line::Half;
-use sequence::Sequence;
 
 /// A half of a block that a cursor needs.
 #[derive(Clone, Copy, Debug, PartialEq, Eq)]

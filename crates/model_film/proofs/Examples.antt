@@ -29,7 +29,8 @@ use Rattle.model_line.specs.Blocks.{frames_between}
 use Rattle.model_block.specs.PacketParts.{read_curve, read_curves, wanted_channels, replaced, with_submap, channel_residues}
 use Rattle.model_block.specs.PacketBlocks.{all_values, packet_parts, block_by_mode, packet_block}
 use Rattle.model_film.specs.FilmLines.{decoded_entries, film_line}
-use Rattle.model_film.specs.Dumps.{frame_bytes, line_bytes, dump_of}
+use Rattle.model_line.specs.FrameBytes.{frame_bytes}
+use Rattle.model_film.specs.Dumps.{line_bytes, dump_of}
 
 -- ---- what is written
 

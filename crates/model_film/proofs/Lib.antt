@@ -12,6 +12,5 @@ pub mod Accepted
 pub mod Examples
 pub mod NumberedBlocks
 pub mod SpanHalves
-pub mod CursorHalves
 pub mod SmallValues
 pub mod SmallBlocks

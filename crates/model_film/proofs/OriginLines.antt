@@ -8,10 +8,9 @@ use Rattle.model_line.specs.declared.item.Item.{Item}
 use Rattle.model_line.specs.declared.item.Item.TheVariants as variants
 use Rattle.model_line.specs.declared.item.Span.{Span}
 use Rattle.model_line.specs.Decode.{frame, frame_count}
-use Rattle.model_line.specs.Origins.{overlap_len, Origin, origin, origins_of, listed, item_frames, line_of}
+use Rattle.model_line.specs.Origins.{overlap_len, Origin, origin, origins_of, listed, item_frames, line_of, frame_by}
 use Rattle.model_line.specs.Blocks.{Values, len_of, overlap, overlap_frame, left_half, right_half}
 use Rattle.model_line.proofs.Counts.{frame_count-append, frame_count-frames}
-use Rattle.model_cursor.specs.Laws.{frame_by}
 use Rattle.model_block.specs.FilmBlocks.{film_block}
 use Rattle.model_film.specs.Laws.{LineByOrigins}
 use Rattle.model_film.proofs.ItemLines.{line_by_items}

@@ -8,7 +8,8 @@ use Rattle.std.proofs.lemmas.List.{length-map, length-replicate, length-reverse,
 use Rattle.std.proofs.lemmas.List.Elements.{All-head, All-tail}
 use Rattle.std.proofs.lemmas.List.FromFn.{length-map-range_with_len}
 use Rattle.model_setup.specs.ResidueDecoding.{residue_vectors}
-use Rattle.model_setup.specs.SetupPacket.{Coupling, Mapping, SetupFields, IsCoupling}
+use Rattle.model_setup.specs.declared.setup.Coupling.{Coupling}
+use Rattle.model_setup.specs.SetupPacket.{Mapping, SetupFields, IsCoupling}
 use Rattle.model_synthesis.specs.Coupling.{first_of, second_of, first_channel, second_channel, channel, without_step, without_steps}
 use Rattle.model_block.specs.PacketParts.{residue_of, is_flagged, channels_of, put_at, replaced, with_submap, channel_residues}
 use Rattle.model_film.proofs.VectorSizes.{lengths, vector_lengths}

@@ -11,8 +11,7 @@ use Rattle.model_line.specs.Acceptance.{FilmLink}
 use Rattle.model_line.specs.PacketRows.{block_flags}
 use Rattle.model_line.specs.Decode.{Kind, missing, skipped, decoded, LinkEntry, LineItem}
 use Rattle.model_line.specs.Lines.{line}
-use Rattle.model_line.specs.Blocks.{Values, frames_between}
-use Rattle.model_cursor.specs.FrameLists.{Frame}
+use Rattle.model_line.specs.Blocks.{Values, frames_between, Frame}
 use Rattle.model_block.specs.FilmBlocks.{block_in_link}
 
 -- ---- the entries of a link, decoded

@@ -12,16 +12,12 @@ use Rattle.model_line.specs.Acceptance.{FilmLink, film_of}
 use Rattle.model_line.specs.PacketRows.{block_flags, rows_of, sized_links, block_packets}
 use Rattle.model_line.specs.Decode.{LineItem, frame_count, gap_count}
 use Rattle.model_line.specs.Lines.{link_line}
-use Rattle.model_line.specs.Origins.{Origin, overlap_len, size_of, starts_from, line_origins, listed, line_of}
-use Rattle.model_line.specs.Blocks.{Values, len_of, frames_between, overlap, overlap_frame, left_half, right_half}
+use Rattle.model_line.specs.Origins.{Origin, overlap_len, size_of, starts_from, line_origins, listed, line_of, frame_by}
+use Rattle.model_line.specs.Blocks.{Values, len_of, frames_between, overlap, overlap_frame, left_half, right_half, Frame}
 use Rattle.model_line.specs.Index.{Indexed, facts_of, Indexes}
-use Rattle.model_cursor.specs.FrameLists.{Frame}
-use Rattle.model_cursor.specs.Sources.{Suits, line_from}
-use Rattle.model_cursor.specs.Laws.{frame_by}
 use Rattle.model_block.specs.FilmBlocks.{block_in_link, film_block}
 use Rattle.model_film.specs.FilmLines.{decoded_entries, film_line}
 use Rattle.model_film.specs.Links.{IsLink}
-use Rattle.model_film.specs.FilmHalves.{film_halves}
 
 -- ---- accepted films
 
@@ -113,22 +109,6 @@ abbrev pub SpansFitHalves : Type 0
 SpansFitHalves = (tables : ConstantTables) (links : List FilmLink) (index : Indexed)
     → AreTables tables → All IsLink links → Indexes (map rows_of links) index
     → All (ItemFits tables links) index.items
-
--- ---- the film's halves and cursors
-
--- The halves of a film's blocks are such as cursors in its index ask for, and the line that the
--- index gives with them is the film's.
-pub record ServesCursors (tables : ConstantTables) (links : List FilmLink) (index : Indexed)
-    : Type 0 where
-  pub suits : Suits index (film_halves tables links)
-  pub line : line_from (film_halves tables links) index.items ≡ film_line tables links
-  pub blocks : index.blocks ≡ length (block_packets links)
-
--- So it is under constants as every accepted file has them.
-abbrev pub HalvesServeCursors : Type 0
-HalvesServeCursors = (tables : ConstantTables) (links : List FilmLink) (index : Indexed)
-    → AreTables tables → All IsLink links → Indexes (map rows_of links) index
-    → ServesCursors tables links index
 
 -- ---- the frame of an origin
 

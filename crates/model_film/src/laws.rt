@@ -1,4 +1,4 @@
-ghost use Rattle.model_film.specs.Laws.{LinksOfFilms, BlocksAreWhole, BlocksAreSmall, LineByItems, CountsAgree, FactsAgree, LineByOrigins, SpansFitHalves, HalvesServeCursors};
+ghost use Rattle.model_film.specs.Laws.{LinksOfFilms, BlocksAreWhole, BlocksAreSmall, LineByItems, CountsAgree, FactsAgree, LineByOrigins, SpansFitHalves};
 
 /// Every link of an accepted film has channels and blocks of right sizes, and its modes name
 /// mappings of all its channels.
@@ -42,10 +42,4 @@ pub fn line_by_origins()
 /// among those that they give.
 pub fn spans_fit_halves()
     ensures { SpansFitHalves }
-{}
-
-/// The halves of a film's blocks are what cursors in its index ask for, and the line that the index
-/// gives with them is the film's.
-pub fn halves_serve_cursors()
-    ensures { HalvesServeCursors }
 {}

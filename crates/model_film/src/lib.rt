@@ -5,6 +5,6 @@
 mod laws;
 
 pub use laws::{
-    blocks_are_small, blocks_are_whole, counts_agree, facts_agree, halves_serve_cursors,
-    line_by_items, line_by_origins, links_of_films, spans_fit_halves,
+    blocks_are_small, blocks_are_whole, counts_agree, facts_agree, line_by_items, line_by_origins,
+    links_of_films, spans_fit_halves,
 };

@@ -8,13 +8,12 @@ use Rattle.std.proofs.lemmas.Bool.{lt-ltb, le-ltb, cases_lt}
 use Rattle.std.proofs.lemmas.List.{length-take, length-map, get_or-drop, get_or-take}
 use Rattle.std.proofs.lemmas.List.FromFn.{length-map-range_with_len}
 use Rattle.model_line.specs.Decode.{Kind, missing, skipped, decoded, LinkEntry}
-use Rattle.model_line.specs.Origins.{overlap_len, number_after, number_behind}
+use Rattle.model_line.specs.Origins.{overlap_len, number_after, number_behind, line_origins}
 use Rattle.model_line.specs.Halves.{IsBlock, AreBlocks, AreFilmBlocks}
 use Rattle.model_synthesis.specs.Coupling.{channel}
 use Rattle.model_synthesis.specs.Overlaps.{value_at, value_behind_zeros, overlap_at}
 use Rattle.model_line.specs.Blocks.{Values, len_of, frame_between, frames_between, left_half, right_half, overlap_frame, overlap, IsEven, blocks_of, link_blocks, all_blocks, block_at}
 use Rattle.model_line.specs.Laws.{LineByHalves, LineByIndex}
-use Rattle.model_line.specs.Origins.{line_origins}
 use Rattle.model_line.proofs.Spans.{line_of_listed}
 
 -- ---- blocks by their numbers

@@ -11,5 +11,7 @@ pub mod IndexLaws
 pub mod Examples
 pub mod FilmExamples
 pub mod BlockPackets
+pub mod Windows
+pub mod ChannelReads
 pub mod FactsAt
 pub mod KeptSteps

@@ -1,13 +1,21 @@
 -- Decoded blocks, and the overlap of neighbouring ones (Vorbis I, section 4.3.8).
-use Rattle.std.specs.Prelude.{◌≡◌, ℕ, ◌+◌, ◌*◌, ◌/◌, ◌+ℤ◌, ℤ, List, [], ◌∷◌, length, map, take, drop, slice_index_or}
-use Rattle.std.specs.List.{flat_map, range_with_len}
+use Rattle.std.specs.Prelude.{◌≡◌, ℕ, ◌+◌, ◌*◌, ◌/◌, ◌+ℤ◌, ℤ, List, [], ◌∷◌, length, map, take, drop, slice_index_or, ◌<◌}
+use Rattle.std.specs.List.{All, flat_map, range_with_len}
+use Rattle.model_setup.specs.HeaderPackets.{IsBlockSize}
+use Rattle.model_line.specs.declared.item.Half.{Half}
+use Rattle.model_line.specs.declared.item.Half.TheVariants.{Left, Right}
 use Rattle.model_line.specs.Decode.{Kind, missing, skipped, decoded, LinkEntry}
 use Rattle.model_synthesis.specs.Coupling.{channel}
+use Rattle.model_synthesis.specs.Transform.{IsBlockValue}
 use Rattle.model_synthesis.specs.Overlaps.{value_at, value_behind_zeros, overlap_len, overlap_at}
 
 -- a block, or half of one: the values of each channel
 abbrev pub Values : Type 0
 Values = List (List ℤ)
+
+-- a frame: one value per channel, in units of 2^-20
+abbrev pub Frame : Type 0
+Frame = List ℤ
 
 -- how many values a channel has
 abbrev pub len_of : Values → ℕ
@@ -39,6 +47,11 @@ left_half block = map (take (len_of block / 2)) block
 unfoldable pub right_half : Values → Values
 right_half block = map (drop (len_of block / 2)) block
 
+-- a half of a block
+abbrev pub half_in : Half → Values → Values
+half_in Left block = left_half block
+half_in Right block = right_half block
+
 -- frame j between a right half and a left half
 abbrev pub overlap_frame : Values → Values → ℕ → List ℤ
 overlap_frame right left j =
@@ -50,6 +63,15 @@ overlap_frame right left j =
 unfoldable pub overlap : Values → Values → List (List ℤ)
 overlap right left = map (overlap_frame right left)
     (range_with_len 0 (overlap_len (2 * len_of right) (2 * len_of left)))
+
+-- A half of a block of so many channels: each has as many values as the first, half as many as a
+-- block has, and they are within their limit.
+pub record IsHalfBlock (channels : ℕ) (half : Values) : Type 0 where
+  pub some : 0 < channels
+  pub count : length half ≡ channels
+  pub size : IsBlockSize (2 * len_of half)
+  pub sizes : All (λ values. length values ≡ len_of half) half
+  pub small : All (All IsBlockValue) half
 
 -- a block has two halves of one size
 abbrev pub IsEven : Values → Type 0

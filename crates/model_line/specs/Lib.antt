@@ -5,6 +5,7 @@ pub mod Origins
 pub mod Halves
 pub mod Index
 pub mod Blocks
+pub mod FrameBytes
 pub mod Laws
 pub mod LinkFaults
 pub mod FaultTexts

@@ -11,6 +11,7 @@ use Rattle.model_line.specs.declared.item.Item.{Item}
 use Rattle.model_line.specs.declared.item.Item.TheVariants as variants
 use Rattle.model_line.specs.Decode.{Kind, missing, skipped, decoded, LinkEntry, LineItem, frame, gap, frame_count}
 use Rattle.model_line.specs.Lines.{line}
+use Rattle.model_line.specs.Blocks.{Frame}
 pub use Rattle.model_synthesis.specs.Overlaps.{overlap_len}
 
 -- the frames between two blocks of which only the sizes are known: their numbers
@@ -85,6 +86,11 @@ origin first second number = record { first = first; second = second; number = n
 -- the origins of the frames between two neighbouring blocks
 abbrev pub origins : NumberedBlock → NumberedBlock → List Origin
 origins a b = map (origin a.number b.number) (range_with_len 0 (overlap_len a.size b.size))
+
+-- an item whose frame is another value
+abbrev pub frame_by : (Origin → Frame) → LineItem Origin → LineItem Frame
+frame_by value (frame link origin) = frame link (value origin)
+frame_by value (gap link kind) = gap link kind
 
 -- the line of a film by origins, the blocks of its links' entries being known by their sizes
 abbrev pub line_origins : List (List (LinkEntry ℕ)) → List (LineItem Origin)

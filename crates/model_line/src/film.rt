@@ -1,9 +1,9 @@
 ghost use Rattle.std.specs.Prelude.{◌≡◌};
 ghost use Rattle.model_line.specs.declared.film.FilmFault.TheVariants.{Memory};
 
+use memory::NoMemory;
 use model_ogg::LinkFault;
 use model_setup::{CommentCause, IdentCause, SetupCause};
-use sequence::NoMemory;
 use std::alloc::{AllocError, AllocFailed};
 use std::error::Error;
 use std::fmt;

@@ -3,8 +3,8 @@ ghost use Rattle.std.specs.Iterator.{YieldsFirst, item_count};
 ghost use Rattle.model_line.specs.KeptRows.{next_mark, marks_behind};
 
 use crate::row::{Row, RowKind};
+use memory::NoMemory;
 use model_ogg::Mark;
-use sequence::NoMemory;
 use std::alloc::Global;
 use std::marker::Model;
 
@@ -121,6 +121,22 @@ impl Rows {
         }
     }
 
+    /// These rows, in order. Their marks stand apart, so that no list of rows can be taken over as
+    /// it is, and memory is taken for what is kept of each.
+    ///
+    /// # Errors
+    ///
+    /// Where no memory is found for them.
+    pub fn of(alloc: Global, items: &[Row]) -> Result<Rows, NoMemory>
+        ensures { IfOk result (λ rows. rows ≡ items.now) }
+    {
+        let mut rows = Rows::with_capacity(alloc, items.len())?;
+        for row in items {
+            rows.push(*row)?;
+        }
+        Ok(rows)
+    }
+
     /// How many rows there are.
     pub fn len(&self) -> usize
         ensures { result ≡ length self.now }
@@ -128,7 +144,7 @@ impl Rows {
         self.kept.len()
     }
 
-    /// The rows, in order.
+    /// The rows, in order. They are put together one at a time, so that none can be lent.
     pub fn iter(&self) -> RowsIter<'_>
         ensures { result ≡ self.now }
     {
@@ -203,10 +219,7 @@ mod tests {
             marked(RowKind::Bad, u64::MAX, true),
             unmarked(RowKind::Bad),
         ];
-        let mut rows = Rows::with_capacity(rt.alloc(), 2)?;
-        for row in added {
-            rows.push(row)?;
-        }
+        let rows = Rows::of(rt.alloc(), &added)?;
         assert_eq!(rt; rows.len(), added.len());
         let read: Vec<Row> = rows.iter().collect(rt.alloc())?;
         assert_eq!(rt; read.as_slice(), added.as_slice());

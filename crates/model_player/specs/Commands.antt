@@ -2,8 +2,8 @@
 use Rattle.std.specs.Prelude.{ℕ, ◌&&◌, ⊤, List, [], ◌∷◌, Option, Some, None, option_map, option_and_then, codes, if◌then◌else◌}
 use Rattle.std.specs.Str.{bytes_eq}
 use Rattle.model_script.specs.Lines.{is_number, value_of, Range, is_in}
-use Rattle.model_player.specs.declared.limits.TheConstants.{MOST_HELPERS, LEAST_SLOTS, MOST_SLOTS, LEAST_SETUPS, MOST_SETUPS}
-use Rattle.model_player.specs.declared.counts.Counts.{Counts}
+use Rattle.model_script.specs.declared.counts.TheConstants.{MOST_HELPERS, LEAST_SLOTS, MOST_SLOTS, LEAST_SETUPS, MOST_SETUPS}
+use Rattle.model_script.specs.declared.counts.Counts.{Counts}
 use Rattle.model_player.specs.declared.status.Status.{Status}
 use Rattle.model_player.specs.declared.status.Status.TheVariants as statuses
 

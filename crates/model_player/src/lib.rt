@@ -2,13 +2,8 @@
 //! statuses with their causes.
 #![tactic(auto)]
 
-mod counts;
 mod limits;
 mod status;
 
-pub use counts::Counts;
-pub use limits::{
-    CONSTANTS_LIMIT, FILM_LIMIT, LEAST_SETUPS, LEAST_SLOTS, MOST_HELPERS, MOST_SETUPS, MOST_SLOTS,
-    SCRIPT_LIMIT,
-};
+pub use limits::{CONSTANTS_LIMIT, FILM_LIMIT, SCRIPT_LIMIT};
 pub use status::Status;

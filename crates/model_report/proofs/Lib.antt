@@ -1,1 +1,2 @@
+pub mod CursorHalves
 pub mod ReportLaws

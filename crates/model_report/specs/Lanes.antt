@@ -1,7 +1,7 @@
 -- The lanes of a script: what the commands of each answer from what is heard of a film.
 use Rattle.std.specs.Prelude.{ℕ, ◌+◌, ◌==◌, if◌then◌else◌, List, [], ◌∷◌, replicate, Option, Some, None, slice_set, slice_index_or}
 use Rattle.model_line.specs.Decode.{LineItem}
-use Rattle.model_cursor.specs.FrameLists.{Frame}
+use Rattle.model_line.specs.Blocks.{Frame}
 use Rattle.model_cursor.specs.Cursors.{CursorState, start, tell, read, seek}
 use Rattle.model_cursor.specs.Splices.{Splicing, lap, crossed}
 use Rattle.model_cursor.specs.Plans.{sought_reply}

@@ -1,3 +1,4 @@
+pub mod FilmHalves
 pub mod Lanes
 pub mod Reports
 pub mod Laws

@@ -1,4 +1,11 @@
+ghost use Rattle.model_report.specs.FilmHalves.{HalvesServeCursors};
 ghost use Rattle.model_report.specs.Laws.{LanesAreApart, EachHasAnAnswer, OthersStay, OpensOnce, CrossesItself, CrossesOpenOnes};
+
+/// The halves of a film's blocks are what cursors in its index ask for, and the line that the index
+/// gives with them is the film's.
+pub fn halves_serve_cursors()
+    ensures { HalvesServeCursors }
+{}
 
 /// The text of a lane is that of its number and its own commands, whatever the other lanes are.
 pub fn lanes_are_apart()

@@ -4,7 +4,7 @@ use Rattle.std.specs.Prelude.{codes}
 use Rattle.std.specs.Fmt.{digits}
 use Rattle.std.specs.List.{flat_map}
 use Rattle.hex.specs.Hex.{encode_with}
-use Rattle.model_film.specs.Dumps.{frame_bytes}
+use Rattle.model_line.specs.FrameBytes.{frame_bytes}
 use Rattle.model_line.specs.declared.row.GapKind.TheVariants as kinds
 use Rattle.model_cursor.specs.declared.reply.Reply.TheVariants as replies
 use Rattle.model_script.specs.declared.command.Command.TheVariants.{Open, Read, Seek, Lap, Cross}

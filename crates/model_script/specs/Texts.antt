@@ -7,8 +7,8 @@ use Rattle.model_line.specs.declared.row.GapKind.{GapKind}
 use Rattle.model_line.specs.declared.row.GapKind.TheVariants as kinds
 use Rattle.model_cursor.specs.declared.reply.Reply.{Reply}
 use Rattle.model_cursor.specs.declared.reply.Reply.TheVariants as replies
-use Rattle.model_cursor.specs.FrameLists.{Frame}
-use Rattle.model_film.specs.Dumps.{frame_bytes}
+use Rattle.model_line.specs.Blocks.{Frame}
+use Rattle.model_line.specs.FrameBytes.{frame_bytes}
 use Rattle.model_script.specs.declared.limits.TheConstants.{LINE_FEED}
 use Rattle.model_script.specs.declared.command.Verb.{Verb}
 use Rattle.model_script.specs.declared.command.Verb.TheVariants as verbs

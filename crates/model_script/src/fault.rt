@@ -1,7 +1,7 @@
 ghost use Rattle.std.specs.Prelude.{◌≡◌};
 ghost use Rattle.model_script.specs.declared.fault.ScriptFault.TheVariants.{Memory};
 
-use sequence::NoMemory;
+use memory::NoMemory;
 use std::alloc::{AllocError, AllocFailed};
 use std::error::Error;
 use std::fmt;

@@ -4,6 +4,7 @@ use Rattle.std.specs.Prelude.{◌≡◌, ℕ, ◌+◌, ◌-◌, ◌<◌, ◌≤�
 use Rattle.std.specs.List.{All, range_with_len}
 use Rattle.model_bits.specs.Bits.{bits_of}
 use Rattle.model_bits.specs.Reading.{Reading, ◌>>=◌, ◌>>◌, give, require, bits, times, repeat, each, relabel, without_rest}
+use Rattle.model_setup.specs.declared.setup.Coupling.{Coupling}
 use Rattle.model_setup.specs.declared.book.Budget.{Budget}
 use Rattle.model_setup.specs.declared.setup.TheConstants.{BOOK_BUDGET}
 use Rattle.model_setup.specs.declared.setup.SetupCause.TheVariants as causes
@@ -19,11 +20,6 @@ use Rattle.model_setup.specs.HeaderPackets.{start_at}
 use Rattle.model_setup.specs.SetupCauses.{end_fault, start_fault, book_fault, floor_fault, residue_fault}
 
 -- ---- what a setup holds
-
--- a coupling step: the channels of its magnitude and its angle
-pub record Coupling : Type 0 where
-  pub magnitude : ℕ
-  pub angle : ℕ
 
 -- a submap: the floor and the residue of its channels, by number
 pub record Submap : Type 0 where

@@ -16,7 +16,7 @@ pub use codeword_laws::{codewords_are_apart, codewords_are_intervals, root_is_gr
 pub use floor::{Final, FloorFault, MOST_POINTS};
 pub use head::{CommentCause, IdentCause, IdentFields, StartCause};
 pub use residue::{ResidueFault, ResidueKind};
-pub use setup::{BOOK_BUDGET, PacketHead, SetupCause, SetupFault};
+pub use setup::{BOOK_BUDGET, Coupling, PacketHead, SetupCause, SetupFault};
 
 /// A law: what makes an identification packet, or refuses it, goes by its fields at their places.
 /// All are right, or the cause is that of the leftmost that is missing or wrong (Vorbis I, section

@@ -152,3 +152,13 @@ impl<T: Drop> From<AllocFailed<T>> for SetupFault {
         SetupFault::Memory
     }
 }
+
+/// A coupling step: the two channels of which one has magnitudes and the other angles (Vorbis I,
+/// section 4.3.5).
+#[derive(Debug, Drop)]
+pub struct Coupling {
+    /// The number of the channel of magnitudes.
+    pub magnitude: u8,
+    /// The number of the channel of angles.
+    pub angle: u8,
+}

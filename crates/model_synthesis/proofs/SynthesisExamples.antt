@@ -1,7 +1,7 @@
 -- Coupling, spectra and sums on small values.
 use Rattle.std.proofs.Common.{◌≡◌, refl, ◌^◌, ℕ, pos, negsuc, List, [], ◌∷◌}
 use Rattle.std.specs.Prelude.{replicate, neg_ℤ}
-use Rattle.model_setup.specs.SetupPacket.{Coupling}
+use Rattle.model_setup.specs.declared.setup.Coupling.{Coupling}
 use Rattle.model_synthesis.specs.Tables.{ConstantTables, wave}
 use Rattle.model_synthesis.specs.Coupling.{uncoupled, first_of, first_channel, second_channel, without_step, without_steps}
 use Rattle.model_synthesis.specs.Spectrum.{shaped_bin}

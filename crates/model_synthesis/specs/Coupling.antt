@@ -3,7 +3,7 @@
 use Rattle.std.specs.Prelude.{◌≡◌, ℕ, ℤ, pos, ◌+ℤ◌, ◌-ℤ◌, int_lt, if◌then◌else◌, List, [], length, map, fold, reverse, slice_index_or, slice_set}
 use Rattle.std.specs.List.{All, range_with_len}
 use Rattle.model_fixed.specs.Fixed.{IsWithinLimit, limited}
-use Rattle.model_setup.specs.SetupPacket.{Coupling}
+use Rattle.model_setup.specs.declared.setup.Coupling.{Coupling}
 
 -- the values of both channels in a bin, from its magnitude and its angle
 abbrev pub uncoupled : ℤ → ℤ → ℤ × ℤ

@@ -6,7 +6,7 @@ use Rattle.std.proofs.lemmas.Bool.{leb-true, true≢false}
 use Rattle.std.proofs.lemmas.List.{append-nil, length-replicate, length-append}
 use Rattle.std.proofs.Math.Pow.{pow_mono}
 use Rattle.model_bits.specs.Reading.{Reading, ◌>>=◌, ◌>>◌, give, require, times}
-use Rattle.model_bits.specs.Writing.{WrittenField, HasPlace, WasRead, Rewrites}
+use Rattle.model_bits.specs.Writing.{WrittenField, HasPlace, WasRead, Rewrites, in_bits, flag, count_in_bits}
 use Rattle.model_bits.proofs.WasRead.{number_read, in_turn}
 use Rattle.model_setup.specs.declared.book.BookFault.{BookFault}
 use Rattle.model_setup.specs.declared.book.BookFault.TheVariants as causes
@@ -17,7 +17,7 @@ use Rattle.model_setup.specs.Codebook.{Codebook, Lookup}
 use Rattle.model_setup.specs.Codewords.{book_words}
 use Rattle.model_setup.specs.Vectors.{multiplicand_count}
 use Rattle.model_setup.specs.BookReading.{field, ilog, front_at, length_at, entry_length_at, runs_at, ordered_lengths_at, unordered_lengths_at, length_list_at, lengths_at, table_at, lookup_of_type, lookup_at, book_at}
-use Rattle.model_writing.specs.SetupWriting.{in_bits, flag, count_in_bits, entry_fields, is_sparse, length_fields, lookup_type, lookup_fields, book_fields}
+use Rattle.model_writing.specs.SetupWriting.{entry_fields, is_sparse, length_fields, lookup_type, lookup_fields, book_fields}
 use Rattle.model_writing.proofs.Kept.{Kept, kept_back, kept_fits, Known, AreRead, Gives, kept, bind, last, ends, done, tested, chosen, refused, number, are_number, are_given, are_in_turn, are_map, are_tested, are_in_row, gives_bind, gives_tested, gives_done, gives_refused, gives_chosen, gives_number, gives_row}
 use Rattle.model_writing.proofs.Numbers.{flag_is}
 

@@ -9,11 +9,11 @@ use Rattle.std.proofs.Math.Nat.{pow-succ'}
 use Rattle.model_setup.specs.declared.floor.FloorFault.TheVariants as causes
 use Rattle.model_setup.specs.declared.floor.TheConstants.{MOST_POINTS}
 use Rattle.model_setup.specs.BookReading.{ilog}
-use Rattle.model_bits.specs.Writing.{HasPlace, WasRead, Rewrites}
+use Rattle.model_bits.specs.Writing.{HasPlace, WasRead, Rewrites, in_bits, count_in_bits, optional_byte}
 use Rattle.std.specs.List.{All}
 use Rattle.model_setup.specs.FloorSetup.{FloorSetup, class_count, value_count, is_distinct}
 use Rattle.model_setup.specs.FloorReading.{book_number_at, master_at, subclass_book_at, class_at, x_values_at, partition_classes_at, partitions_at, floor_at}
-use Rattle.model_writing.specs.SetupWriting.{in_bits, count_in_bits, subclass_book_fields, master_fields, class_fields, range_bits, floor_fields}
+use Rattle.model_writing.specs.SetupWriting.{subclass_book_fields, class_fields, range_bits, floor_fields}
 use Rattle.model_writing.proofs.Kept.{Kept, kept_back, kept_fits, kept, bind, last, ends, done, tested, chosen, number, in_row}
 use Rattle.model_writing.proofs.Numbers.{count_is}
 
@@ -21,7 +21,7 @@ named_kept : (books : ℕ) → Kept (book_number_at books) (in_bits 8) (λ n. Un
 unfolding book_number_at
 named_kept books = kept (bind (number causes.End 8) (λ n small. tested (nat_lt n books) causes.Book (λ h. done (refl, tt))))
 
-master_kept : (books subclass_bits : ℕ) → Kept (master_at books subclass_bits) master_fields (λ master. Unit {0})
+master_kept : (books subclass_bits : ℕ) → Kept (master_at books subclass_bits) optional_byte (λ master. Unit {0})
 unfolding master_at
 master_kept books subclass_bits = kept (chosen (subclass_bits == 0) (λ none. done (refl, tt)) (λ some. last (λ book. Some book) (named_kept books) (λ book u. (refl, tt))))
 
@@ -40,7 +40,7 @@ class_kept books =
     bind (number causes.End 2) (λ subclass_bits few.
     bind (master_kept books subclass_bits) (λ master u.
     last _ (in_row (2 ^ subclass_bits) (subclass_kept books)) (λ named facts.
-    (ap (λ fields. fields ++ (in_bits 2 subclass_bits ++ (master_fields master ++ flat_map subclass_book_fields named))) (count_is 3 dimensions), tt))))))
+    (ap (λ fields. fields ++ (in_bits 2 subclass_bits ++ (optional_byte master ++ flat_map subclass_book_fields named))) (count_is 3 dimensions), tt))))))
 
 -- the binary digits of 2 ^ bits - 1 are so many
 pub range_is : (bits : ℕ) → bits < 16 → ilog (2 ^ bits - 1) ≡ bits

@@ -7,9 +7,8 @@ use Rattle.std.specs.List.{All, AllByRecursion, AllZip, range_with_len}
 use Rattle.std.proofs.lemmas.List.Elements.{All-from_recursion}
 use Rattle.std.proofs.lemmas.Bool.{false≢true}
 use Rattle.model_bits.specs.Reading.{Reading, ◌>>=◌, ◌>>◌, give, refuse, require, bits, times, each, repeat, relabel}
-use Rattle.model_bits.specs.Writing.{WrittenField, HasPlace, ReadsBack, WasRead, Rewrites}
+use Rattle.model_bits.specs.Writing.{WrittenField, HasPlace, ReadsBack, WasRead, Rewrites, in_bits}
 use Rattle.model_bits.proofs.ReadsBack.{number_back, give_back, then_back, map_back, tested_back, relabel_back}
-use Rattle.model_writing.specs.SetupWriting.{in_bits}
 use Rattle.model_bits.proofs.WasRead.{given, required, number_read, in_turn, in_turn_next, relabelled, times_read}
 
 -- fields that are read as this value, and have places

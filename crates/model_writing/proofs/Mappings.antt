@@ -7,9 +7,9 @@ use Rattle.model_setup.specs.declared.setup.SetupFault.TheVariants.{Bad}
 use Rattle.model_setup.specs.SetupCauses.{end_fault}
 use Rattle.model_setup.specs.BookReading.{ilog}
 use Rattle.std.specs.List.{All}
-use Rattle.model_bits.specs.Writing.{HasPlace, WasRead, Rewrites}
+use Rattle.model_bits.specs.Writing.{HasPlace, WasRead, Rewrites, in_bits, count_in_bits, flagged_count}
 use Rattle.model_setup.specs.SetupPacket.{Mapping, Mode, coupling_at, couplings_at, mux_at, submap_at, mapping_at, mappings_at, mode_at, modes_at}
-use Rattle.model_writing.specs.SetupWriting.{in_bits, count_in_bits, flagged_count, coupling_fields, mux_fields, submap_fields, mapping_fields, mode_fields, counted_fields}
+use Rattle.model_writing.specs.SetupWriting.{coupling_fields, mux_fields, submap_fields, mapping_fields, mode_fields, counted_fields}
 use Rattle.model_writing.proofs.Kept.{Kept, kept_back, kept_fits, kept, bind, next, skip, last, ends, done, tested, chosen, number, in_row, of_numbers, are_number}
 use Rattle.model_writing.proofs.Numbers.{flag_is, below_kept, zero_kept, count_kept, flagged_kept}
 

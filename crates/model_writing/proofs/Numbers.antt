@@ -3,13 +3,12 @@ use Rattle.std.proofs.Common.{◌≡◌, ℕ, zero, suc, ◌+◌, ◌-◌, ◌^�
 use Rattle.std.proofs.lemmas.Nat.{pow_pos}
 use Rattle.std.proofs.lemmas.Bool.{ltb-true, eqb-false}
 use Rattle.model_bits.specs.Bits.{bit_value}
-use Rattle.model_bits.specs.Writing.{WasRead}
+use Rattle.model_bits.specs.Writing.{WasRead, in_bits, flag, count_in_bits, flagged_count}
 use Rattle.model_bits.specs.Reading.{give, require}
 use Rattle.model_bits.proofs.WasRead.{given, number_read, in_turn}
 use Rattle.model_setup.specs.declared.setup.SetupFault.{SetupFault}
 use Rattle.model_setup.specs.SetupCauses.{end_fault}
 use Rattle.model_setup.specs.SetupPacket.{setup_field, number_below_at, zero_at, count_at, count_if_flagged_at}
-use Rattle.model_writing.specs.SetupWriting.{in_bits, flag, count_in_bits, flagged_count}
 use Rattle.model_writing.proofs.Kept.{Kept, Known, AreRead, kept, bind, last, done, tested, test_last, number, are_number, are_given, are_in_turn, are_map}
 
 -- a flag's number is the number of its bit

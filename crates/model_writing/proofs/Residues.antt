@@ -6,14 +6,14 @@ use Rattle.std.proofs.lemmas.Bool.{eqb-false}
 use Rattle.std.proofs.Math.Nat.{div-div-eq-div-mul}
 use Rattle.model_bits.specs.Bits.{bit_value}
 use Rattle.model_bits.specs.Reading.{Reading, ◌>>=◌, give}
-use Rattle.model_bits.specs.Writing.{WrittenField, HasPlace, WasRead, Rewrites}
+use Rattle.model_bits.specs.Writing.{WrittenField, HasPlace, WasRead, Rewrites, in_bits, optional_byte}
 use Rattle.std.proofs.lemmas.Nat.{pow-add, mod-pow-add}
 use Rattle.model_setup.specs.declared.residue.ResidueFault.{ResidueFault}
 use Rattle.model_setup.specs.declared.residue.ResidueFault.TheVariants as causes
 use Rattle.model_setup.specs.Codebook.{Codebook}
 use Rattle.model_setup.specs.ResidueSetup.{ResidueSetup, names_classes, has_values}
 use Rattle.model_setup.specs.ResidueReading.{residue_field, kind_at, serves, serving_book_at, pass_flags_at, pass_book_at, cascade_at, cascades_at, residue_at}
-use Rattle.model_writing.specs.SetupWriting.{in_bits, master_fields, residue_type, pass_flags, cascade_fields, residue_fields}
+use Rattle.model_writing.specs.SetupWriting.{residue_type, pass_flags, cascade_fields, residue_fields}
 use Rattle.model_writing.proofs.Kept.{Kept, kept_back, kept_fits, Gives, AreRead, gives_bind, gives_number, gives_chosen, gives_done, are_number, are_given, are_in_turn, are_map, kept, bind, last, ends, done, tested, chosen, refused, number, in_row, of_each}
 
 kind_kept : (type : ℕ) → Kept (kind_at type) (λ kind. []) (λ kind. type ≡ residue_type kind)
@@ -32,7 +32,7 @@ abbrev flag_fields : ℕ → List WrittenField
 flag_fields flags = in_bits 3 (flags % 8) ++ (if flags / 8 == 0 then in_bits 1 0 else in_bits 1 1 ++ in_bits 5 (flags / 8))
 
 -- a book of a pass, where the flags say that there is one
-pass_kept : (books : List Codebook) (flags pass : ℕ) → Kept (pass_book_at books flags pass) master_fields (λ book. bit_value (is_some book) ≡ flags / 2 ^ pass % 2)
+pass_kept : (books : List Codebook) (flags pass : ℕ) → Kept (pass_book_at books flags pass) optional_byte (λ book. bit_value (is_some book) ≡ flags / 2 ^ pass % 2)
 unfolding pass_book_at
 pass_kept books flags pass =
     kept (chosen (flags / 2 ^ pass % 2 == 1)
@@ -54,7 +54,7 @@ flags_from flags first (suc count) (book ∷ books) pairs =
     let one : bit_value (is_some book) ≡ q % 2 = pairs.0 in
     omega (arith, others, split, one)
 
-cascade_kept : (books : List Codebook) (flags : ℕ) → flags < 2 ^ 8 → Kept (cascade_at books flags) (flat_map master_fields) (λ cascade. pass_flags cascade ≡ flags)
+cascade_kept : (books : List Codebook) (flags : ℕ) → flags < 2 ^ 8 → Kept (cascade_at books flags) (flat_map optional_byte) (λ cascade. pass_flags cascade ≡ flags)
 unfolding cascade_at
 cascade_kept books flags small =
     kept (ends (of_each {Right = λ pass. Unit {0}} (range_with_len 0 8) (λ pass u. pass_kept books flags pass) (tt, (tt, (tt, (tt, (tt, (tt, (tt, (tt, tt)))))))))
@@ -96,12 +96,12 @@ same_flags (f ∷ flags) (cascade ∷ cascades) pairs =
     let others = same_flags flags cascades pairs.1 in
     (ap suc others.0, ap (λ n. flag_fields n ++ flat_map flag_fields flags) (sym pairs.0) ∙ ap (λ fields. cascade_fields cascade ++ fields) others.1)
 
-cascades_kept : (books : List Codebook) (classes : ℕ) → Kept (cascades_at books classes) (λ cascades. flat_map cascade_fields cascades ++ flat_map (flat_map master_fields) cascades) (λ cascades. length cascades ≡ classes)
+cascades_kept : (books : List Codebook) (classes : ℕ) → Kept (cascades_at books classes) (λ cascades. flat_map cascade_fields cascades ++ flat_map (flat_map optional_byte) cascades) (λ cascades. length cascades ≡ classes)
 unfolding cascades_at
 cascades_kept books classes =
     kept (bind (in_row classes flags_kept) (λ flags facts. ends (of_each flags (cascade_kept books) facts.1) (λ cascades pairs.
     let same = same_flags flags cascades pairs in
-    (ap (λ fields. fields ++ flat_map (flat_map master_fields) cascades) same.1, same.0 ∙ facts.0))))
+    (ap (λ fields. fields ++ flat_map (flat_map optional_byte) cascades) same.1, same.0 ∙ facts.0))))
 
 pub residue_kept : (type : ℕ) (books : List Codebook) → Kept (residue_at type books) residue_fields (λ residue. type ≡ residue_type residue.kind)
 unfolding residue_at
@@ -115,8 +115,8 @@ residue_kept type books =
     last _ (cascades_kept books (classes + 1)) (λ cascades long.
     let e : size ≡ size + 1 - 1 = omega arith in
     let k : classes ≡ length cascades - 1 = omega (arith, long) in (
-      ap (λ s. in_bits 24 begin ++ (in_bits 24 end ++ (in_bits 24 s ++ (in_bits 6 classes ++ (in_bits 8 class_book ++ (flat_map cascade_fields cascades ++ flat_map (flat_map master_fields) cascades)))))) e
-          ∙ ap (λ c. in_bits 24 begin ++ (in_bits 24 end ++ (in_bits 24 (size + 1 - 1) ++ (in_bits 6 c ++ (in_bits 8 class_book ++ (flat_map cascade_fields cascades ++ flat_map (flat_map master_fields) cascades)))))) k,
+      ap (λ s. in_bits 24 begin ++ (in_bits 24 end ++ (in_bits 24 s ++ (in_bits 6 classes ++ (in_bits 8 class_book ++ (flat_map cascade_fields cascades ++ flat_map (flat_map optional_byte) cascades)))))) e
+          ∙ ap (λ c. in_bits 24 begin ++ (in_bits 24 end ++ (in_bits 24 (size + 1 - 1) ++ (in_bits 6 c ++ (in_bits 8 class_book ++ (flat_map cascade_fields cascades ++ flat_map (flat_map optional_byte) cascades)))))) k,
       is,
     )))))))))
 

@@ -4,7 +4,7 @@ use Rattle.std.specs.Prelude.{codes}
 use Rattle.std.specs.List.{range_with_len}
 use Rattle.model_bits.specs.Bits.{bits_of}
 use Rattle.model_bits.specs.Reading.{Reading, ◌>>=◌, give, each, without_rest}
-use Rattle.model_bits.specs.Writing.{WrittenField, WasRead, bits_of_fields}
+use Rattle.model_bits.specs.Writing.{WrittenField, WasRead, bits_of_fields, in_bits, count_in_bits}
 use Rattle.model_bits.proofs.Numbers.{bits_of-append}
 use Rattle.model_setup.specs.declared.book.Budget.{Budget}
 use Rattle.model_setup.specs.declared.head.StartCause.TheVariants as starts
@@ -16,7 +16,7 @@ use Rattle.model_setup.specs.Codebook.{Codebook}
 use Rattle.model_setup.specs.ResidueSetup.{ResidueSetup}
 use Rattle.model_setup.specs.HeaderPackets.{bytes_at}
 use Rattle.model_setup.specs.SetupPacket.{SetupFields, zero_at, next_book_at, whole_budget, books_at, times_at, numbered_floor_at, floors_at, numbered_residue_at, residues_at, framing_at, setup_at}
-use Rattle.model_writing.specs.SetupWriting.{in_bits, count_in_bits, book_fields, floor_fields, residue_type, residue_fields, counted_fields, setup_fields}
+use Rattle.model_writing.specs.SetupWriting.{book_fields, floor_fields, residue_type, residue_fields, counted_fields, setup_fields}
 use Rattle.model_writing.specs.SetupLaws.{SetupsReadBack, SetupFieldsHavePlaces, SetupPacketsReadBack, SetupsOfPacketsWereRead}
 use Rattle.model_writing.proofs.Kept.{Kept, kept_back, kept_fits, AreRead, kept, bind, next, skip, last, ends, done, tested, test_last, number, renamed, of_numbers, of_states, are_given, are_in_turn, are_map}
 use Rattle.model_writing.proofs.Numbers.{count_kept, zero_are, count_are}

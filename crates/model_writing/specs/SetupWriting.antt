@@ -6,7 +6,7 @@
 use Rattle.std.specs.Prelude.{ℕ, ◌+◌, ◌-◌, ◌*◌, ◌/◌, ◌%◌, ◌==◌, nat_lt, List, [], ◌∷◌, ◌++◌, length, drop, Option, Some, None, is_none, is_some, Bool, true, false, if◌then◌else◌, codes, slice_index}
 use Rattle.std.specs.List.{flat_map, list_any}
 use Rattle.model_bits.specs.Bits.{bit_value}
-use Rattle.model_bits.specs.Writing.{WrittenField}
+use Rattle.model_bits.specs.Writing.{WrittenField, in_bits, flag, count_in_bits, flagged_count, optional_byte}
 use Rattle.model_setup.specs.declared.book.LookupKind.{LookupKind}
 use Rattle.model_setup.specs.declared.book.LookupKind.TheVariants.{Lattice, Tessellation}
 use Rattle.model_setup.specs.declared.residue.ResidueKind.{ResidueKind}
@@ -15,26 +15,8 @@ use Rattle.model_setup.specs.Codebook.{Codebook, Lookup}
 use Rattle.model_setup.specs.BookReading.{ilog}
 use Rattle.model_setup.specs.FloorSetup.{FloorClass, FloorSetup}
 use Rattle.model_setup.specs.ResidueSetup.{ResidueSetup}
-use Rattle.model_setup.specs.SetupPacket.{Coupling, Submap, Mapping, Mode, SetupFields}
-
--- ---- fields
-
--- a number in so many bits
-abbrev pub in_bits : ℕ → ℕ → List WrittenField
-in_bits width number = record { number = number; width = width } ∷ []
-
--- a flag
-abbrev pub flag : Bool → List WrittenField
-flag b = in_bits 1 (bit_value b)
-
--- a count, which stands there less one
-abbrev pub count_in_bits : ℕ → ℕ → List WrittenField
-count_in_bits width count = in_bits width (count - 1)
-
--- a count behind a flag, which isn't set where it is the other count
-abbrev pub flagged_count : ℕ → ℕ → ℕ → List WrittenField
-flagged_count width other count =
-    if count == other then in_bits 1 0 else in_bits 1 1 ++ count_in_bits width count
+use Rattle.model_setup.specs.declared.setup.Coupling.{Coupling}
+use Rattle.model_setup.specs.SetupPacket.{Submap, Mapping, Mode, SetupFields}
 
 -- ---- codebooks (section 3.2.1)
 
@@ -74,14 +56,10 @@ abbrev pub subclass_book_fields : Option ℕ → List WrittenField
 subclass_book_fields None = in_bits 8 0
 subclass_book_fields (Some book) = in_bits 8 (book + 1)
 
-abbrev pub master_fields : Option ℕ → List WrittenField
-master_fields None = []
-master_fields (Some book) = in_bits 8 book
-
 abbrev pub class_fields : FloorClass → List WrittenField
 class_fields class =
     count_in_bits 3 class.dimensions ++ (in_bits 2 class.subclass_bits
-    ++ (master_fields class.master ++ flat_map subclass_book_fields class.books))
+    ++ (optional_byte class.master ++ flat_map subclass_book_fields class.books))
 
 -- two to how many is the end of the range: how many binary digits the numbers below it have
 abbrev pub range_bits : List ℕ → ℕ
@@ -116,7 +94,7 @@ residue_fields residue =
     in_bits 24 residue.begin ++ (in_bits 24 residue.end
     ++ (count_in_bits 24 residue.partition_size ++ (count_in_bits 6 (length residue.cascades)
     ++ (in_bits 8 residue.class_book ++ (flat_map cascade_fields residue.cascades
-    ++ flat_map (flat_map master_fields) residue.cascades)))))
+    ++ flat_map (flat_map optional_byte) residue.cascades)))))
 
 -- ---- mappings and modes (section 4.2.4)
 

@@ -1,7 +1,7 @@
 ghost use Rattle.std.specs.Prelude.{◌≡◌};
 ghost use Rattle.ogg_packets.specs.declared.fault.EntryFault.TheVariants.{Memory};
 
-use sequence::NoMemory;
+use memory::NoMemory;
 use std::alloc::AllocFailed;
 use thiserror::Error;
 

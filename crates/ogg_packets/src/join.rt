@@ -2,7 +2,7 @@ ghost use Rattle.std.specs.Prelude.{◌≡◌, length, All, IfOk};
 ghost use Rattle.ogg_packets.specs.Pieces.{joined, LiesBefore};
 
 use crate::pieces::Pieces;
-use sequence::NoMemory;
+use memory::NoMemory;
 use std::alloc::Global;
 
 /// The bytes of a packet that lies in these pieces of the bytes of a file, joined.

@@ -1,7 +1,7 @@
 ghost use Rattle.std.specs.Prelude.{◌≡◌, ◌∷◌, [], IfSome, OnOk, OnErr};
 ghost use Rattle.ogg_packets.specs.Pieces.{IsGrown, GrowsLast, AddsPiece};
 
-use sequence::NoMemory;
+use memory::NoMemory;
 use std::alloc::Global;
 use std::marker::Model;
 use std::slice;

@@ -9,8 +9,8 @@ use crate::fault::EntryFault;
 use crate::kept::KeptEntry;
 use crate::list::EntryList;
 use crate::pieces::{Piece, Pieces};
+use memory::NoMemory;
 use model_ogg::Mark;
-use sequence::NoMemory;
 use std::alloc::Global;
 
 /// Whether one of the lacing values ends a packet.

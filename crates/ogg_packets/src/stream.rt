@@ -1,5 +1,5 @@
 ghost use Rattle.std.specs.Prelude.{◌≡◌, ◌<◌, ◌^◌, [], ◌∷◌, ◌++◌, length, is_some, if◌then◌else◌, All, IfOk};
-ghost use Rattle.sequence.specs.Answers.{Answers};
+ghost use Rattle.memory.specs.Answers.{Answers};
 ghost use Rattle.model_ogg.specs.Pages.{IsPageOf};
 ghost use Rattle.model_ogg.specs.Streams.{stream_of};
 ghost use Rattle.model_ogg.specs.Entries.{lost, stream_items};
@@ -11,8 +11,8 @@ use crate::kept::KeptEntry;
 use crate::list::EntryList;
 use crate::page::{StreamState, read_page};
 use crate::walk::StreamPages;
+use memory::NoMemory;
 use model_ogg::PageRef;
-use sequence::NoMemory;
 use std::alloc::Global;
 
 /// Adds the entries of a stream, and says whether a packet is open at its end.

@@ -12,8 +12,8 @@ mod scanner;
 mod tables;
 
 pub use crc::checksum;
+pub use memory::NoMemory;
 pub use model_ogg::PageRef;
 pub use page_out::{PageOut, page_bytes};
 pub use parts::{body, laces, segment_place};
 pub use scanner::{next_page, scan};
-pub use sequence::NoMemory;

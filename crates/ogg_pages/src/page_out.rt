@@ -5,7 +5,7 @@ ghost use Rattle.model_ogg.specs.Writing.{granule_number, with_checksum, written
 ghost use Rattle.ogg_pages.specs.Written.{IsWritten, fields_to_write};
 
 use crate::crc::checksum;
-use sequence::NoMemory;
+use memory::NoMemory;
 use std::alloc::Global;
 
 /// A page that is to be written (RFC 3533, section 6).

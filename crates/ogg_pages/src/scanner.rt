@@ -10,8 +10,8 @@ use crate::parts::segments_len;
 use crate::ring::KEPT;
 use byteorder::{ByteOrder, LittleEndian};
 use memchr::memmem::Finder;
+use memory::NoMemory;
 use model_ogg::{HEADER_LEN, PageRef};
-use sequence::NoMemory;
 use std::alloc::Global;
 
 /// How many bytes a page has at most: its header, 255 lacing values, and 255 bytes for each of them

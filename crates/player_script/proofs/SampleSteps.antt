@@ -3,8 +3,9 @@ use Rattle.std.proofs.Common.{◌≡◌, ℕ, List, [], ◌∷◌, ◌++◌, ◌
 use Rattle.std.specs.List.{flat_map}
 use Rattle.std.proofs.lemmas.List.Concat.{flat_map-append}
 use Rattle.hex.specs.Hex.{encode_with, encode_lower, lower_digits}
-use Rattle.model_cursor.specs.FrameLists.{Frame, values_of}
-use Rattle.model_film.specs.Dumps.{sample_bytes, frame_bytes}
+use Rattle.model_line.specs.Blocks.{Frame}
+use Rattle.model_cursor.specs.FrameLists.{values_of}
+use Rattle.model_line.specs.FrameBytes.{sample_bytes, frame_bytes}
 
 pub encode-append : (t xs ys : List ℕ) → encode_with t (xs ++ ys) ≡ encode_with t xs ++ encode_with t ys
 unfolding encode_with

@@ -1,7 +1,7 @@
 -- One line more of a script: what is said, and whether it is refused.
 use Rattle.std.proofs.Common.{◌≡◌, ℕ, ◌+◌, ◌<◌, ◌≤◌, zero-add, Ok, Err, Bool, cond, ◌⊎◌, inl, inr, List, [], ◌∷◌, ◌++◌, length, map, take, get_or, Option, Some, None, Result, ◌≢◌, subst, refl, sym, ap, ◌∙◌, arith}
 use Rattle.std.specs.Prelude.{nat_lt, slice_get}
-use Rattle.sequence.specs.Answers.{Answers}
+use Rattle.memory.specs.Answers.{Answers}
 use Rattle.std.specs.List.{All, cons_option}
 use Rattle.std.specs.Option.{option_map, option_and_then}
 use Rattle.std.proofs.lemmas.Bool.{cases_Bool}

@@ -6,10 +6,10 @@ ghost use Rattle.player_script.specs.Fronts.{IsFrontOf};
 
 use crate::samples::write_samples;
 use itoa::Buffer;
+use memory::NoMemory;
 use model_cursor::{Frames, Reply};
 use model_line::GapKind;
 use model_script::{Answer, Command, LINE_FEED};
-use sequence::NoMemory;
 
 /// Writes bytes.
 fn write(bytes: &[u8], out: &mut Vec<u8>) -> Result<(), NoMemory>

@@ -1,6 +1,6 @@
 ghost use Rattle.std.specs.Prelude.{◌≡◌, ◌≢◌, ◌<◌, ◌≤◌, ◌+◌, ◌-◌, [], ◌∷◌, ◌++◌, length, vec_len, nat_lt, None, Some, OnOk, MatchResult, true};
 ghost use Rattle.std.specs.List.{All};
-ghost use Rattle.sequence.specs.Answers.{Answers};
+ghost use Rattle.memory.specs.Answers.{Answers};
 ghost use Rattle.model_script.specs.declared.limits.TheConstants.{MOST_LANES, MOST_FRAMES};
 ghost use Rattle.model_script.specs.declared.command.Line.{Line};
 ghost use Rattle.model_script.specs.Lines.{line_of, words_of};
@@ -8,8 +8,8 @@ ghost use Rattle.model_script.specs.Scripts.{IsRight, AreLanes, frames_of};
 ghost use Rattle.player_script.specs.Steps.{IsRightLine, lanes_with, limit_by, refusal_by};
 
 use crate::lines::line;
+use memory::Sequence;
 use model_script::{Command, Line, MOST_FRAMES, MOST_LANES, ScriptFault, Which};
-use sequence::Sequence;
 use std::alloc::Global;
 
 /// The commands of a lane.

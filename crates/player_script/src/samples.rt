@@ -1,11 +1,11 @@
 ghost use Rattle.std.specs.Prelude.{◌≡◌, ◌<◌, ◌+◌, ◌*◌, [], ◌∷◌, ◌++◌, length, slice_index, OnOk, OnErr, take};
 ghost use Rattle.std.specs.List.{flat_map};
 ghost use Rattle.hex.specs.Hex.{lower_digits, encode_lower};
-ghost use Rattle.model_film.specs.Dumps.{sample_bytes};
+ghost use Rattle.model_line.specs.FrameBytes.{sample_bytes};
 ghost use Rattle.player_script.specs.Fronts.{IsFrontOf};
 
 use lap_window::pcm;
-use sequence::NoMemory;
+use memory::NoMemory;
 
 /// The digit of a number below 16 in lower-case hexadecimal.
 fn digit(number: u8) -> u8

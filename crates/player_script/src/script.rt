@@ -1,6 +1,6 @@
 ghost use Rattle.std.specs.Prelude.{◌≡◌, ◌<◌, ◌^◌, length, slice_get, Some};
 ghost use Rattle.std.specs.List.{All};
-ghost use Rattle.sequence.specs.Answers.{Answers};
+ghost use Rattle.memory.specs.Answers.{Answers};
 ghost use Rattle.model_script.specs.Scripts.{AreLanes, IsRight, first_refusal, lanes_unless, said, script_of, without_last_feed};
 ghost use Rattle.player_script.specs.Steps.{worded};
 

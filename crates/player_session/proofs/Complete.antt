@@ -1,7 +1,7 @@
 -- Where nothing fails, the duty was done.
 use Rattle.std.proofs.Common.{◌≡◌, ◌≢◌, ℕ, ◌≤◌, ◌<◌, List, length, Option, Some, None, Result, Ok, Err, refl, sym, ap, subst, ◌∙◌, inl, inr, arith}
 use Rattle.vf_outside.specs.Told.{Told, MayBeTooLong}
-use Rattle.model_player.specs.declared.counts.Counts.{Counts}
+use Rattle.model_script.specs.declared.counts.Counts.{Counts}
 use Rattle.model_player.specs.declared.status.Status.{Status}
 use Rattle.model_player.specs.declared.status.Status.TheVariants as statuses
 use Rattle.model_line.specs.Acceptance.{film_of}

@@ -6,7 +6,7 @@ use Rattle.std.proofs.lemmas.Bool.Decides.{nat_tests}
 use Rattle.model_script.specs.Lines.{is_number, value_of}
 use Rattle.model_script.specs.declared.fault.LineCause.{LineCause}
 use Rattle.model_script.specs.declared.fault.LineCause.TheVariants as causes
-use Rattle.model_player.specs.declared.counts.Counts.{Counts}
+use Rattle.model_script.specs.declared.counts.Counts.{Counts}
 use Rattle.model_player.specs.Commands.{helpers_range, slots_range, setups_range, number_in, number_of, counts_of, trial, trial_of}
 
 -- ---- one number

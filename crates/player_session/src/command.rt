@@ -3,7 +3,7 @@ ghost use Rattle.model_script.specs.Lines.{Range};
 ghost use Rattle.model_player.specs.Commands.{number_in, number_of, counts_of, trial_of, command_of};
 ghost use Rattle.player_session.specs.Words.{command_named};
 
-use model_player::{Counts, LEAST_SETUPS, LEAST_SLOTS, MOST_HELPERS, MOST_SETUPS, MOST_SLOTS};
+use model_script::{Counts, LEAST_SETUPS, LEAST_SLOTS, MOST_HELPERS, MOST_SETUPS, MOST_SLOTS};
 use player_script::number;
 
 /// A command, with the names of its files, or with the number that its inputs are made of.

@@ -4,8 +4,8 @@ ghost use Rattle.model_player.specs.Outcome.{sink_run};
 ghost use Rattle.player_session.specs.Steps.{FinishesStop, IsRefusal, StopsBy};
 
 use crate::notes::{write_memory, write_note};
+use memory::NoMemory;
 use model_player::Status;
-use sequence::NoMemory;
 use std::alloc::AllocError;
 use vf_outside::Sink;
 

@@ -17,9 +17,10 @@ use crate::output::write_at_once;
 use crate::trial_texts::trial_text;
 use film_blocks::{Constants, Film, Reel};
 use film_maker::{make_constants, make_film, make_script};
-use model_player::{Counts, Status};
+use memory::NoMemory;
+use model_player::Status;
+use model_script::Counts;
 use player_script::Script;
-use sequence::NoMemory;
 use std::alloc::Global;
 use vf_outside::{Gate, Sink};
 

@@ -10,8 +10,8 @@ use crate::decoder::Workspace;
 use crate::residue::Residue;
 use bit_reader::Bits;
 use codebooks::Book;
+use memory::NoMemory;
 use model_setup::ResidueKind;
-use sequence::NoMemory;
 use std::alloc::Global;
 
 /// How many values each of the lines has.

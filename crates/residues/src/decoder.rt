@@ -12,8 +12,8 @@ use crate::adding::{Run, add_across, add_to_line};
 use crate::residue::Residue;
 use bit_reader::Bits;
 use codebooks::Book;
+use memory::NoMemory;
 use model_setup::ResidueKind;
-use sequence::NoMemory;
 use std::alloc::Global;
 use std::ops::Range;
 

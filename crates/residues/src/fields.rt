@@ -1,5 +1,5 @@
 ghost use Rattle.std.specs.Prelude.{◌≡◌, ◌≤◌, ◌<◌, ◌^◌, length, IfOk};
-ghost use Rattle.sequence.specs.Answers.{Answers};
+ghost use Rattle.memory.specs.Answers.{Answers};
 ghost use Rattle.model_setup.specs.ResidueReading.{residue_field, serving_book_at};
 ghost use Rattle.model_setup.specs.ResidueSetup.{names_classes, has_values, Serves};
 

@@ -14,6 +14,6 @@ mod residue;
 
 pub use laws::{none_wanted_stays_silent, nothing_outside_the_range, unwanted_stays_silent};
 pub use lines::{Line, zero_lines};
+pub use memory::NoMemory;
 pub use model_setup::{ResidueFault, ResidueKind};
 pub use residue::Residue;
-pub use sequence::NoMemory;

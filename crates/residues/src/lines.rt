@@ -2,7 +2,7 @@ ghost use Rattle.std.specs.Prelude.{◌≡◌, length, replicate, pos, IfOk};
 ghost use Rattle.std.specs.List.{All};
 ghost use Rattle.residues.specs.Layout.{line_size, AreZero};
 
-use sequence::{NoMemory, Sequence};
+use memory::{NoMemory, Sequence};
 use std::alloc::Global;
 
 /// The values of one vector, in units of 2^-16.

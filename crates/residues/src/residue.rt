@@ -1,17 +1,18 @@
-ghost use Rattle.std.specs.Prelude.{◌≡◌, ◌≤◌, ◌<◌, ◌^◌, length, IfOk, OnOk, IfSome};
+ghost use Rattle.std.specs.Prelude.{◌≡◌, ◌≤◌, ◌<◌, ◌^◌, length, IfOk, OnOk, OnErr, IfSome};
 ghost use Rattle.std.specs.List.{All, flat_map};
 ghost use Rattle.model_bits.specs.Reading.{times, each};
-ghost use Rattle.sequence.specs.Answers.{Answers};
+ghost use Rattle.memory.specs.Answers.{Answers};
 ghost use Rattle.model_setup.specs.ResidueSetup.{FitsBooks, Serves, has_values};
 ghost use Rattle.model_setup.specs.ResidueReading.{pass_flags_at, pass_book_at, cascade_at, cascades_at, residue_at};
-ghost use Rattle.model_writing.specs.SetupWriting.{residue_type, pass_flags, cascade_fields, master_fields, residue_fields};
-ghost use Rattle.field_writing.specs.Puts.{ArePut, HavePlaces};
+ghost use Rattle.model_bits.specs.Writing.{optional_byte};
+ghost use Rattle.model_writing.specs.SetupWriting.{residue_type, pass_flags, cascade_fields, residue_fields};
+ghost use Rattle.setup_fields.specs.Puts.{ArePut, HavePlaces, IsFrontOf};
 
 use crate::fields::{read_class_book, read_field, read_value_book};
 use bit_reader::{Bits, BitsOut, NoMemory};
 use codebooks::Book;
-use field_writing::{put_book, put_count, put_flag, put_number};
 use model_setup::{ResidueFault, ResidueKind};
+use setup_fields::{put_book, put_count, put_flag, put_number};
 use std::alloc::Global;
 use std::marker::Model;
 
@@ -172,7 +173,8 @@ fn pass_flags(cascade: &Cascade) -> u32
 
 /// Writes in which passes a class has a book.
 fn write_pass_flags(out: &mut BitsOut, cascade: &Cascade) -> Result<(), NoMemory>
-    ensures { OnOk result (ArePut out.old out.new (cascade_fields cascade.now)) }
+    ensures put { OnOk result (ArePut out.old out.new (cascade_fields cascade.now)) }
+    ensures kept { OnErr result (IsFrontOf out.old out.new) }
 {
     let flags = pass_flags(cascade);
     let high = flags / 8;
@@ -186,7 +188,8 @@ fn write_pass_flags(out: &mut BitsOut, cascade: &Cascade) -> Result<(), NoMemory
 
 /// Writes in which passes each class has a book.
 fn write_all_flags(out: &mut BitsOut, cascades: &[Cascade]) -> Result<(), NoMemory>
-    ensures { OnOk result (ArePut out.old out.new (flat_map cascade_fields cascades.now)) }
+    ensures put { OnOk result (ArePut out.old out.new (flat_map cascade_fields cascades.now)) }
+    ensures kept { OnErr result (IsFrontOf out.old out.new) }
 {
     for cascade in cascades {
         write_pass_flags(out, cascade)?;
@@ -196,7 +199,8 @@ fn write_all_flags(out: &mut BitsOut, cascades: &[Cascade]) -> Result<(), NoMemo
 
 /// Writes the books of a class.
 fn write_cascade(out: &mut BitsOut, cascade: &Cascade) -> Result<(), NoMemory>
-    ensures { OnOk result (ArePut out.old out.new (flat_map master_fields cascade.now)) }
+    ensures put { OnOk result (ArePut out.old out.new (flat_map optional_byte cascade.now)) }
+    ensures kept { OnErr result (IsFrontOf out.old out.new) }
 {
     for book in cascade {
         put_book(out, *book)?;
@@ -206,8 +210,9 @@ fn write_cascade(out: &mut BitsOut, cascade: &Cascade) -> Result<(), NoMemory>
 
 /// Writes the books of each class.
 fn write_cascades(out: &mut BitsOut, cascades: &[Cascade]) -> Result<(), NoMemory>
-    ensures { OnOk result
-        (ArePut out.old out.new (flat_map (flat_map master_fields) cascades.now)) }
+    ensures put { OnOk result
+        (ArePut out.old out.new (flat_map (flat_map optional_byte) cascades.now)) }
+    ensures kept { OnErr result (IsFrontOf out.old out.new) }
 {
     for cascade in cascades {
         write_cascade(out, cascade)?;
@@ -228,10 +233,11 @@ impl Residue {
     }
 
     /// Writes the residue behind the bits that were put before, without its type. Where no memory
-    /// is found, the bits are of no use.
+    /// is found, what was put before stays in front.
     pub fn write(&self, out: &mut BitsOut) -> Result<(), NoMemory>
         requires { HavePlaces (residue_fields self.now) }
-        ensures { OnOk result (ArePut out.old out.new (residue_fields self.now)) }
+        ensures put { OnOk result (ArePut out.old out.new (residue_fields self.now)) }
+        ensures kept { OnErr result (IsFrontOf out.old out.new) }
     {
         put_number(out, 24, self.begin)?;
         put_number(out, 24, self.end)?;

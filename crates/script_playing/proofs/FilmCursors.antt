@@ -11,24 +11,24 @@ use Rattle.model_line.specs.Acceptance.{FilmLink}
 use Rattle.model_line.specs.PacketRows.{rows_by, rows_of}
 use Rattle.model_line.proofs.FactsAt.{slice_get-facts}
 use Rattle.model_line.specs.Decode.{LineItem}
-use Rattle.model_line.specs.Origins.{listed}
+use Rattle.model_line.specs.Origins.{listed, frame_by}
 use Rattle.model_line.specs.Index.{Indexed, facts_of, facts_from}
-use Rattle.model_cursor.specs.FrameLists.{Frame}
+use Rattle.model_line.specs.Blocks.{Frame}
 use Rattle.model_cursor.specs.Cursors.{CursorState, tell, seek, read}
 use Rattle.model_cursor.specs.declared.reply.Reply.{Reply}
 use Rattle.model_cursor.specs.declared.reply.Reply.TheVariants as replies
 use Rattle.model_cursor.specs.declared.reply.Sought.{Sought}
 use Rattle.model_cursor.specs.Splices.{Splicing, lap, crossed}
 use Rattle.model_cursor.specs.Plans.{shorts_of, splicing_of, sought_reply}
-use Rattle.model_cursor.specs.Laws.{frame_by}
 use Rattle.model_cursor.specs.Positions.{Position, state_in}
 use Rattle.model_cursor.specs.Sources.{Suits, line_from, channels_in}
 use Rattle.model_cursor.proofs.Shapes.{seeks_by_origins}
-use Rattle.model_film.specs.FilmHalves.{half_in, film_halves}
+use Rattle.model_line.specs.Blocks.{half_in}
+use Rattle.model_report.specs.FilmHalves.{film_halves, ServesCursors}
 use Rattle.model_film.specs.FilmLines.{film_line}
-use Rattle.model_film.specs.Laws.{frame_at, ServesCursors}
+use Rattle.model_film.specs.Laws.{frame_at}
 use Rattle.model_film.proofs.OriginLines.{line_by_origins}
-use Rattle.model_film.proofs.CursorHalves.{halves_serve_cursors}
+use Rattle.model_report.proofs.CursorHalves.{halves_serve_cursors}
 use Rattle.model_block.specs.FilmBlocks.{film_block}
 use Rattle.film_blocks.specs.KeyedBlocks.{half_of, keyed_block}
 use Rattle.model_script.specs.declared.command.Command.TheVariants.{Seek, Tell}

@@ -11,9 +11,9 @@ use crate::answers::answer;
 use crate::crosses::cross;
 use cursor::{Cursor, Reply};
 use film_blocks::{Index, Reel};
+use memory::{NoMemory, Sequence};
 use model_script::{Answer, Command, GREATEST_CURSOR};
 use player_script::reply_text;
-use sequence::{NoMemory, Sequence};
 use std::alloc::{AllocError, Global};
 
 /// The text of a lane: its first line, and the lines of the answers to its commands.

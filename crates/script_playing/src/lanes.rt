@@ -4,9 +4,9 @@ ghost use Rattle.script_playing.specs.Playing.{CanBePlayed};
 
 use crate::lane::{Text, lane_text};
 use film_blocks::Reel;
-use model_player::Counts;
+use memory::{NoMemory, Sequence};
+use model_script::Counts;
 use player_script::Script;
-use sequence::{NoMemory, Sequence};
 use std::alloc::Global;
 use vf_outside::Gate;
 

@@ -1,10 +1,10 @@
 ghost use Rattle.std.specs.Prelude.{length};
 ghost use Rattle.model_line.specs.PacketRows.{block_packets};
-ghost use Rattle.model_film.specs.FilmHalves.{film_halves};
+ghost use Rattle.model_report.specs.FilmHalves.{film_halves};
 
 use cursor::{Blocks, HalfBlock, Need};
 use film_blocks::Reel;
-use sequence::NoMemory;
+use memory::NoMemory;
 use std::alloc::Global;
 use std::marker::Model;
 use std::sync::ledger::{Blank, Ledger};

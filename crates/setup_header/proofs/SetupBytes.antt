@@ -5,7 +5,7 @@ use Rattle.model_bits.specs.Writing.{WasRead, bits_of_fields, filled}
 use Rattle.model_setup.specs.SetupPacket.{SetupFields, setup_at, IsSetup}
 use Rattle.model_writing.specs.SetupWriting.{setup_fields}
 use Rattle.model_writing.proofs.Whole.{packet_back}
-use Rattle.field_writing.specs.Puts.{ArePut}
+use Rattle.setup_fields.specs.Puts.{ArePut}
 use Rattle.setup_header.specs.Setups.{channels_of, WasSetup, AreReadAs}
 use Rattle.setup_header.proofs.SetupChannels.{channels_are, few_channels}
 

@@ -1,11 +1,11 @@
 -- The parts of what is written of a mapping and of a setup: each has its places, and all of them together are the whole.
 use Rattle.std.proofs.Common.{◌≡◌, ℕ, ◌+◌, ◌-◌, ◌^◌, ◌<◌, ◌≤◌, List, ◌∷◌, ◌++◌, length, flat_map, codes, Bool, false, ◌==◌, if◌then◌else◌, subst, inl, inr, arith}
 use Rattle.std.proofs.lemmas.Bool.{cases_eq, ne_eqb}
-use Rattle.model_bits.specs.Writing.{WrittenField}
+use Rattle.model_bits.specs.Writing.{WrittenField, in_bits, count_in_bits, flagged_count}
 use Rattle.model_setup.specs.SetupPacket.{Mapping, SetupFields}
-use Rattle.model_writing.specs.SetupWriting.{in_bits, count_in_bits, flagged_count, counted_fields, book_fields, coupling_fields, mux_fields, submap_fields, mapping_fields, mode_fields, setup_fields}
-use Rattle.field_writing.specs.Puts.{HavePlaces, ArePut}
-use Rattle.field_writing.proofs.Puts.{field_then, then_put, first_place, next_places, places_before, places_behind}
+use Rattle.model_writing.specs.SetupWriting.{counted_fields, book_fields, coupling_fields, mux_fields, submap_fields, mapping_fields, mode_fields, setup_fields}
+use Rattle.setup_fields.specs.Puts.{HavePlaces, ArePut}
+use Rattle.setup_fields.proofs.Puts.{field_then, then_put, first_place, next_places, places_before, places_behind}
 use Rattle.setup_header.specs.Parts.{numbered_floor_fields, numbered_residue_fields}
 
 -- a count behind a flag that has a place is small

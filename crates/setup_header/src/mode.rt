@@ -1,16 +1,16 @@
-ghost use Rattle.std.specs.Prelude.{◌≡◌, ◌≤◌, ◌<◌, length, IfOk, OnOk};
+ghost use Rattle.std.specs.Prelude.{◌≡◌, ◌≤◌, ◌<◌, length, IfOk, OnOk, OnErr};
 ghost use Rattle.std.specs.List.{All, flat_map};
 ghost use Rattle.model_bits.specs.Reading.{leaving};
-ghost use Rattle.sequence.specs.Answers.{Answers};
+ghost use Rattle.memory.specs.Answers.{Answers};
 ghost use Rattle.model_setup.specs.SetupPacket.{each_number, mode_at, modes_at, Mode as ModeFields};
 ghost use Rattle.model_writing.specs.SetupWriting.{counted_fields, mode_fields};
-ghost use Rattle.field_writing.specs.Puts.{ArePut, HavePlaces};
+ghost use Rattle.setup_fields.specs.Puts.{ArePut, HavePlaces, IsFrontOf};
 
 use crate::faults::bad;
 use crate::fields::{read_count, read_field, read_number_below, read_zero};
 use bit_reader::{Bits, BitsOut, NoMemory};
-use field_writing::{put_count, put_flag, put_number};
 use model_setup::{SetupCause, SetupFault};
+use setup_fields::{put_count, put_flag, put_number};
 use std::alloc::Global;
 use std::marker::Model;
 
@@ -91,7 +91,8 @@ pub fn read_modes(alloc: Global, bits: &mut Bits, mappings: u32) -> Result<Vec<M
 /// Writes a mode.
 fn write_mode(out: &mut BitsOut, mode: &Mode) -> Result<(), NoMemory>
     requires { HavePlaces (mode_fields mode.now) }
-    ensures { OnOk result (ArePut out.old out.new (mode_fields mode.now)) }
+    ensures put { OnOk result (ArePut out.old out.new (mode_fields mode.now)) }
+    ensures kept { OnErr result (IsFrontOf out.old out.new) }
 {
     put_flag(out, mode.long)?;
     put_number(out, 16, 0)?;
@@ -102,7 +103,8 @@ fn write_mode(out: &mut BitsOut, mode: &Mode) -> Result<(), NoMemory>
 /// Writes each of these modes.
 fn write_each_mode(out: &mut BitsOut, modes: &[Mode]) -> Result<(), NoMemory>
     requires { HavePlaces (flat_map mode_fields modes.now) }
-    ensures { OnOk result (ArePut out.old out.new (flat_map mode_fields modes.now)) }
+    ensures put { OnOk result (ArePut out.old out.new (flat_map mode_fields modes.now)) }
+    ensures kept { OnErr result (IsFrontOf out.old out.new) }
 {
     for mode in modes {
         write_mode(out, mode)?;
@@ -113,7 +115,8 @@ fn write_each_mode(out: &mut BitsOut, modes: &[Mode]) -> Result<(), NoMemory>
 /// Writes the modes of a setup.
 pub fn write_modes(out: &mut BitsOut, modes: &[Mode]) -> Result<(), NoMemory>
     requires { HavePlaces (counted_fields 6 mode_fields modes.now) }
-    ensures { OnOk result (ArePut out.old out.new (counted_fields 6 mode_fields modes.now)) }
+    ensures put { OnOk result (ArePut out.old out.new (counted_fields 6 mode_fields modes.now)) }
+    ensures kept { OnErr result (IsFrontOf out.old out.new) }
 {
     put_count(out, 6, modes.len() as u32)?;
     write_each_mode(out, modes)

@@ -1,4 +1,4 @@
-ghost use Rattle.std.specs.Prelude.{◌≡◌, ◌≤◌, ◌<◌, length, Ok, Err, MatchOption};
+ghost use Rattle.std.specs.Prelude.{◌≡◌, ◌≤◌, ◌<◌, [], length, Ok, Err, IfNone, MatchOption};
 ghost use Rattle.model_setup.specs.AudioHead.{window_flags_at, block_head_at, head_of};
 
 use bit_reader::Bits;
@@ -9,6 +9,7 @@ use model_setup::PacketHead;
 fn window_flags(bits: &mut Bits, long: bool) -> Option<(bool, bool)>
     ensures read { MatchOption result (window_flags_at long bits.old.left ≡ Err tt)
         (λ flags. window_flags_at long bits.old.left ≡ Ok (flags, bits.new.left)) }
+    ensures finished { IfNone result (bits.new.left ≡ []) }
     ensures bytes { bits.new.total ≡ bits.old.total }
 {
     if !long {
@@ -20,7 +21,8 @@ fn window_flags(bits: &mut Bits, long: bool) -> Option<(bool, bool)>
 }
 
 /// The mode and the window flags of a block, which stand behind the first bit of its packet, or
-/// `None` where there is no such mode or the packet ends (Vorbis I, section 4.3.1).
+/// `None` where there is no such mode or the packet ends; all bits are used up then (Vorbis I,
+/// section 4.3.1).
 #[tactic(auto, unfolding(model_setup::specs::AudioHead::block_head_at))]
 #[inline(always)]
 pub fn block_head(bits: &mut Bits, long_flags: &[bool]) -> Option<PacketHead>
@@ -28,12 +30,16 @@ pub fn block_head(bits: &mut Bits, long_flags: &[bool]) -> Option<PacketHead>
     requires few { length long_flags.now ≤ 64 }
     ensures read { MatchOption result (block_head_at long_flags.now bits.old.left ≡ Err tt)
         (λ head. block_head_at long_flags.now bits.old.left ≡ Ok (head, bits.new.left)) }
+    ensures finished { IfNone result (bits.new.left ≡ []) }
     ensures bytes { bits.new.total ≡ bits.old.total }
 {
     let last_mode = long_flags.len() as u32 - 1;
     let width = u32::BITS - last_mode.leading_zeros();
     let mode = bits.take(width)?;
-    let long = long_flags.get(mode as usize)?;
+    let Some(long) = long_flags.get(mode as usize) else {
+        bits.finish();
+        return None;
+    };
     let (prev, next) = window_flags(bits, *long)?;
     Some(PacketHead::Block {
         mode: mode as u8,

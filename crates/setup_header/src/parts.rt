@@ -1,22 +1,22 @@
-ghost use Rattle.std.specs.Prelude.{◌≡◌, ◌≤◌, ◌<◌, ◌+◌, length, IfOk, ◌++◌, OnOk};
+ghost use Rattle.std.specs.Prelude.{◌≡◌, ◌≤◌, ◌<◌, ◌+◌, length, IfOk, ◌++◌, OnOk, OnErr};
 ghost use Rattle.std.specs.List.{All, flat_map};
 ghost use Rattle.model_bits.specs.Reading.{leaving, repeat};
-ghost use Rattle.sequence.specs.Answers.{Answers};
+ghost use Rattle.memory.specs.Answers.{Answers};
 ghost use Rattle.model_setup.specs.FloorSetup.{IsFloor, FloorNamesBooks};
 ghost use Rattle.model_setup.specs.ResidueSetup.{FitsBooks};
 ghost use Rattle.model_setup.specs.SetupPacket.{each_number, next_book_at, books_at, numbered_floor_at, floors_at, numbered_residue_at, residues_at};
 ghost use Rattle.model_writing.specs.SetupWriting.{counted_fields, book_fields};
-ghost use Rattle.field_writing.specs.Puts.{ArePut, HavePlaces};
+ghost use Rattle.setup_fields.specs.Puts.{ArePut, HavePlaces, IsFrontOf};
 ghost use Rattle.setup_header.specs.Parts.{numbered_floor_fields, numbered_residue_fields};
 
 use crate::faults::{bad, book_fault, floor_fault, residue_fault};
 use crate::fields::{read_count, read_field};
 use bit_reader::{Bits, BitsOut, NoMemory};
 use codebooks::{Book, Budget};
-use field_writing::{put_count, put_number};
 use floor_one::Floor;
 use model_setup::{BOOK_BUDGET, SetupCause, SetupFault};
 use residues::Residue;
+use setup_fields::{put_count, put_number};
 use std::alloc::Global;
 
 /// Reads the codebook of this number, and takes what it holds from the budget.
@@ -183,7 +183,8 @@ pub fn read_residues(
 /// Writes each of these codebooks.
 fn write_each_book(out: &mut BitsOut, books: &[Book]) -> Result<(), NoMemory>
     requires { HavePlaces (flat_map book_fields books.now) }
-    ensures { OnOk result (ArePut out.old out.new (flat_map book_fields books.now)) }
+    ensures put { OnOk result (ArePut out.old out.new (flat_map book_fields books.now)) }
+    ensures kept { OnErr result (IsFrontOf out.old out.new) }
 {
     for book in books {
         book.write(out)?;
@@ -194,8 +195,9 @@ fn write_each_book(out: &mut BitsOut, books: &[Book]) -> Result<(), NoMemory>
 /// Writes the codebooks of a setup.
 pub fn write_books(out: &mut BitsOut, books: &[Book]) -> Result<(), NoMemory>
     requires { HavePlaces (counted_fields 8 book_fields books.now) }
-    ensures { OnOk result
+    ensures put { OnOk result
         (ArePut out.old out.new (counted_fields 8 book_fields books.now)) }
+    ensures kept { OnErr result (IsFrontOf out.old out.new) }
 {
     put_count(out, 8, books.len() as u32)?;
     write_each_book(out, books)
@@ -204,7 +206,8 @@ pub fn write_books(out: &mut BitsOut, books: &[Book]) -> Result<(), NoMemory>
 /// Writes a floor, behind its type.
 fn write_floor(out: &mut BitsOut, floor: &Floor) -> Result<(), NoMemory>
     requires { HavePlaces (numbered_floor_fields floor.now) }
-    ensures { OnOk result (ArePut out.old out.new (numbered_floor_fields floor.now)) }
+    ensures put { OnOk result (ArePut out.old out.new (numbered_floor_fields floor.now)) }
+    ensures kept { OnErr result (IsFrontOf out.old out.new) }
 {
     put_number(out, 16, 1)?;
     floor.write(out)
@@ -213,7 +216,8 @@ fn write_floor(out: &mut BitsOut, floor: &Floor) -> Result<(), NoMemory>
 /// Writes each of these floors.
 fn write_each_floor(out: &mut BitsOut, floors: &[Floor]) -> Result<(), NoMemory>
     requires { HavePlaces (flat_map numbered_floor_fields floors.now) }
-    ensures { OnOk result (ArePut out.old out.new (flat_map numbered_floor_fields floors.now)) }
+    ensures put { OnOk result (ArePut out.old out.new (flat_map numbered_floor_fields floors.now)) }
+    ensures kept { OnErr result (IsFrontOf out.old out.new) }
 {
     for floor in floors {
         write_floor(out, floor)?;
@@ -224,8 +228,9 @@ fn write_each_floor(out: &mut BitsOut, floors: &[Floor]) -> Result<(), NoMemory>
 /// Writes the floors of a setup.
 pub fn write_floors(out: &mut BitsOut, floors: &[Floor]) -> Result<(), NoMemory>
     requires { HavePlaces (counted_fields 6 numbered_floor_fields floors.now) }
-    ensures { OnOk result
+    ensures put { OnOk result
         (ArePut out.old out.new (counted_fields 6 numbered_floor_fields floors.now)) }
+    ensures kept { OnErr result (IsFrontOf out.old out.new) }
 {
     put_count(out, 6, floors.len() as u32)?;
     write_each_floor(out, floors)
@@ -234,7 +239,8 @@ pub fn write_floors(out: &mut BitsOut, floors: &[Floor]) -> Result<(), NoMemory>
 /// Writes a residue, behind its type.
 fn write_residue(out: &mut BitsOut, residue: &Residue) -> Result<(), NoMemory>
     requires { HavePlaces (numbered_residue_fields residue.now) }
-    ensures { OnOk result (ArePut out.old out.new (numbered_residue_fields residue.now)) }
+    ensures put { OnOk result (ArePut out.old out.new (numbered_residue_fields residue.now)) }
+    ensures kept { OnErr result (IsFrontOf out.old out.new) }
 {
     put_number(out, 16, residue.kind())?;
     residue.write(out)
@@ -243,7 +249,9 @@ fn write_residue(out: &mut BitsOut, residue: &Residue) -> Result<(), NoMemory>
 /// Writes each of these residues.
 fn write_each_residue(out: &mut BitsOut, residues: &[Residue]) -> Result<(), NoMemory>
     requires { HavePlaces (flat_map numbered_residue_fields residues.now) }
-    ensures { OnOk result (ArePut out.old out.new (flat_map numbered_residue_fields residues.now)) }
+    ensures put { OnOk result
+        (ArePut out.old out.new (flat_map numbered_residue_fields residues.now)) }
+    ensures kept { OnErr result (IsFrontOf out.old out.new) }
 {
     for residue in residues {
         write_residue(out, residue)?;
@@ -254,8 +262,9 @@ fn write_each_residue(out: &mut BitsOut, residues: &[Residue]) -> Result<(), NoM
 /// Writes the residues of a setup.
 pub fn write_residues(out: &mut BitsOut, residues: &[Residue]) -> Result<(), NoMemory>
     requires { HavePlaces (counted_fields 6 numbered_residue_fields residues.now) }
-    ensures { OnOk result
+    ensures put { OnOk result
         (ArePut out.old out.new (counted_fields 6 numbered_residue_fields residues.now)) }
+    ensures kept { OnErr result (IsFrontOf out.old out.new) }
 {
     put_count(out, 6, residues.len() as u32)?;
     write_each_residue(out, residues)

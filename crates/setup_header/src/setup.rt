@@ -1,30 +1,31 @@
-ghost use Rattle.std.specs.Prelude.{◌≡◌, ◌≤◌, ◌<◌, length, Some, IfOk, OnOk};
+ghost use Rattle.std.specs.Prelude.{◌≡◌, ◌≤◌, ◌<◌, length, Some, IfOk, OnOk, OnErr};
 ghost use Rattle.std.specs.List.{All};
 ghost use Rattle.model_bits.specs.Bits.{bits_of};
 ghost use Rattle.model_bits.specs.Writing.{filled, bits_of_fields};
 ghost use Rattle.model_bits.specs.Reading.{leaving};
-ghost use Rattle.sequence.specs.Answers.{Answers};
+ghost use Rattle.memory.specs.Answers.{Answers};
 ghost use Rattle.model_setup.specs.SetupPacket.{framing_at, setup_at, setup_of, IsSetup};
 ghost use Rattle.model_setup.specs.AudioHead.{long_flags_of};
 ghost use Rattle.model_writing.specs.SetupWriting.{setup_fields};
-ghost use Rattle.field_writing.specs.Puts.{ArePut, HavePlaces};
+ghost use Rattle.setup_fields.specs.Puts.{ArePut, HavePlaces, IsFrontOf};
 ghost use Rattle.setup_header.specs.Setups.{mapping_of, AreReadAs, HasFewChannels};
 
 use crate::faults::bad;
 use crate::fields::read_field;
-use crate::mapping::{Bounds, Mapping, read_mappings, write_mappings};
+use crate::mapping::{Mapping, read_mappings, write_mappings};
 use crate::mode::{Mode, read_modes, write_modes};
 use crate::parts::{
     read_books, read_floors, read_residues, write_books, write_floors, write_residues,
 };
 use crate::start::{read_start, write_start};
+use crate::submaps::Bounds;
 use crate::time_transforms::{read_time_transforms, write_time_transforms};
 use bit_reader::{Bits, BitsOut, NoMemory};
 use codebooks::Book;
-use field_writing::put_flag;
 use floor_one::Floor;
 use model_setup::{SetupCause, SetupFault};
 use residues::Residue;
+use setup_fields::put_flag;
 use std::alloc::{AllocError, Global};
 use std::marker::Model;
 
@@ -129,7 +130,8 @@ impl Parts {
     fn write(&self, out: &mut BitsOut) -> Result<(), NoMemory>
         requires few { All HasFewChannels self.now.mappings }
         requires fits { HavePlaces (setup_fields self.now) }
-        ensures { OnOk result (ArePut out.old out.new (setup_fields self.now)) }
+        ensures put { OnOk result (ArePut out.old out.new (setup_fields self.now)) }
+        ensures kept { OnErr result (IsFrontOf out.old out.new) }
     {
         write_start(out)?;
         write_books(out, &self.books)?;

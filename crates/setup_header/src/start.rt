@@ -1,15 +1,15 @@
-ghost use Rattle.std.specs.Prelude.{◌≡◌, ◌∷◌, OnOk, codes};
+ghost use Rattle.std.specs.Prelude.{◌≡◌, ◌∷◌, OnOk, OnErr, codes};
 ghost use Rattle.std.specs.List.{flat_map};
 ghost use Rattle.model_bits.specs.Reading.{bits as bits_at, leaving, relabel};
 ghost use Rattle.model_setup.specs.HeaderPackets.{bytes_at, start_at};
 ghost use Rattle.model_setup.specs.SetupCauses.{start_fault};
-ghost use Rattle.model_writing.specs.SetupWriting.{in_bits};
-ghost use Rattle.field_writing.specs.Puts.{ArePut};
+ghost use Rattle.model_bits.specs.Writing.{in_bits};
+ghost use Rattle.setup_fields.specs.Puts.{ArePut, IsFrontOf};
 
 use crate::faults::start_fault;
 use bit_reader::{Bits, BitsOut, NoMemory};
-use field_writing::put_bytes;
 use model_setup::{SetupFault, StartCause};
+use setup_fields::put_bytes;
 
 /// The bytes that a setup packet begins with: its type, 5, and the word that all header packets
 /// have (Vorbis I, section 4.2.1).
@@ -48,8 +48,9 @@ pub fn read_start(bits: &mut Bits) -> Result<(), SetupFault>
 
 /// Writes the start of a setup packet.
 pub fn write_start(out: &mut BitsOut) -> Result<(), NoMemory>
-    ensures { OnOk result
+    ensures put { OnOk result
         (ArePut out.old out.new (flat_map (in_bits 8) (5 ∷ codes "vorbis"))) }
+    ensures kept { OnErr result (IsFrontOf out.old out.new) }
 {
     put_bytes(out, 8, &START)
 }

@@ -1,14 +1,14 @@
-ghost use Rattle.std.specs.Prelude.{◌≡◌, ◌++◌, OnOk, replicate};
+ghost use Rattle.std.specs.Prelude.{◌≡◌, ◌++◌, OnOk, OnErr, replicate};
 ghost use Rattle.model_bits.specs.Reading.{leaving};
 ghost use Rattle.model_setup.specs.SetupPacket.{each_number, zero_at, times_at};
-ghost use Rattle.model_writing.specs.SetupWriting.{in_bits};
-ghost use Rattle.field_writing.specs.Puts.{ArePut};
+ghost use Rattle.model_bits.specs.Writing.{in_bits};
+ghost use Rattle.setup_fields.specs.Puts.{ArePut, IsFrontOf};
 
 use crate::faults::bad;
 use crate::fields::{read_count, read_zero};
 use bit_reader::{Bits, BitsOut, NoMemory};
-use field_writing::put_number;
 use model_setup::{SetupCause, SetupFault};
+use setup_fields::put_number;
 
 /// Reads so many time domain transforms, each of which must be 0.
 fn read_each_time_transform(bits: &mut Bits, count: u32) -> Result<(), SetupFault>
@@ -36,7 +36,8 @@ pub fn read_time_transforms(bits: &mut Bits) -> Result<u32, SetupFault>
 
 /// Writes one time domain transform.
 pub fn write_time_transforms(out: &mut BitsOut) -> Result<(), NoMemory>
-    ensures { OnOk result (ArePut out.old out.new (in_bits 6 0 ++ in_bits 16 0)) }
+    ensures put { OnOk result (ArePut out.old out.new (in_bits 6 0 ++ in_bits 16 0)) }
+    ensures kept { OnErr result (IsFrontOf out.old out.new) }
 {
     put_number(out, 6, 0)?;
     put_number(out, 16, 0)

@@ -1,4 +1,4 @@
-use Rattle.field_writing.proofs.Puts.{first_place, next_places}
+use Rattle.setup_fields.proofs.Puts.{first_place, next_places}
 use Rattle.codebooks.proofs.lengths.write_entry_length.Goals as goal
 
 pub put_count-requires-clause-fits : goal.put_count-requires-clause-fits

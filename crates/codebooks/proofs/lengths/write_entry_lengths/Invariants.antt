@@ -1,6 +1,6 @@
 use Rattle.std.proofs.Common.{take, flat_map}
 use Rattle.model_writing.specs.SetupWriting.{entry_fields}
-use Rattle.field_writing.specs.Puts.{ArePut}
+use Rattle.setup_fields.specs.Puts.{ArePut}
 use Rattle.codebooks.proofs.lengths.write_entry_lengths.Given as goal
 
 abbrev pub invariant-loop-len : goal.invariant-loop-len

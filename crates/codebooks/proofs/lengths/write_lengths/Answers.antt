@@ -1,4 +1,4 @@
-use Rattle.field_writing.proofs.Puts.{next_places}
+use Rattle.setup_fields.proofs.Puts.{next_places}
 use Rattle.codebooks.proofs.lengths.write_lengths.Goals as goal
 
 pub write_entry_lengths-requires : goal.write_entry_lengths-requires

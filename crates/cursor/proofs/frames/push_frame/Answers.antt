@@ -1,5 +1,5 @@
 use Rattle.std.proofs.Common.{sym}
-use Rattle.model_cursor.proofs.ChannelReads.{channel_read, value_of_one, read_back}
+use Rattle.model_line.proofs.ChannelReads.{channel_read, value_of_one, read_back}
 use Rattle.cursor.proofs.FrameSteps.{channel_step}
 use Rattle.cursor.proofs.frames.push_frame.Goals as goal
 

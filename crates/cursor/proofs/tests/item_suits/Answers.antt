@@ -7,8 +7,8 @@ use Rattle.std.proofs.lemmas.List.Elements.{All-cons, All-nil, All-replicate}
 use Rattle.model_synthesis.specs.Transform.{IsBlockValue}
 use Rattle.model_line.specs.declared.item.Span.{Span}
 use Rattle.model_line.specs.declared.item.LinkFacts.{LinkFacts}
-use Rattle.model_line.specs.Blocks.{len_of}
-use Rattle.model_cursor.specs.Sources.{IsHalfBlock, channels_in, SpanSuits}
+use Rattle.model_line.specs.Blocks.{len_of, IsHalfBlock}
+use Rattle.model_cursor.specs.Sources.{channels_in, SpanSuits}
 use Rattle.cursor.proofs.tests.item_suits.Goals as goal
 
 on_true : (b : Bool) (P : Type 0) → (b ≡ true → P) → OnTrue b P

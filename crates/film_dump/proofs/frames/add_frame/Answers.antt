@@ -1,5 +1,5 @@
 use Rattle.std.proofs.Common.{◌∙◌, sym, append-nil, get_or, pos, to_z, of_z, w64}
-use Rattle.model_cursor.proofs.ChannelReads.{channel_read, value_of_one, read_back}
+use Rattle.model_line.proofs.ChannelReads.{channel_read, value_of_one, read_back}
 use Rattle.film_dump.proofs.FrameSteps.{frame_bytes-nil, sample_is, sample_step}
 use Rattle.film_dump.proofs.frames.add_frame.Goals as goal
 

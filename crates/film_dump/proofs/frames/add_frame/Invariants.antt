@@ -3,7 +3,7 @@ use Rattle.std.specs.List.{range_with_len}
 use Rattle.model_synthesis.specs.Coupling.{channel}
 use Rattle.model_synthesis.specs.Overlaps.{overlap_at}
 use Rattle.model_line.specs.Blocks.{len_of}
-use Rattle.model_film.specs.Dumps.{frame_bytes}
+use Rattle.model_line.specs.FrameBytes.{frame_bytes}
 use Rattle.film_dump.proofs.frames.add_frame.Given as goal
 
 abbrev pub invariant-loop-channel : goal.invariant-loop-channel

@@ -1,6 +1,6 @@
 use Rattle.std.proofs.Common.{◌∙◌, List, ℕ, ap, drop, arith}
 use Rattle.model_line.specs.Acceptance.{film_of}
-use Rattle.model_trial_film.proofs.Accepted.{made_films_are_accepted}
+use Rattle.trial_film_laws.proofs.Accepted.{made_films_are_accepted}
 use Rattle.model_trial.specs.MadeFilm.{made_links}
 use Rattle.film_maker.specs.Drawn.{drawn_link_of}
 use Rattle.film_maker.proofs.FilmLinks.{with_links, one_link_more, no_links_yet, all_links, channels_at}

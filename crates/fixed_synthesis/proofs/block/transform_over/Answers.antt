@@ -1,4 +1,4 @@
-use Rattle.std.proofs.Common.{◌≡◌, ◌*◌, ◌∙◌, ap, sym, subst, length, List, ℕ, ℤ, arith}
+use Rattle.std.proofs.Common.{◌≡◌, ◌*◌, ◌∙◌, ap, refl, sym, subst, length, List, ℕ, ℤ, arith}
 use Rattle.std.specs.List.{All}
 use Rattle.model_setup.specs.HeaderPackets.{IsBlockSize}
 use Rattle.model_synthesis.specs.Transform.{IsBlockValue}
@@ -13,7 +13,7 @@ unfold_sums-requires-clause-size c = subst IsBlockSize (sym c.requires.out) c.re
 pub returns-clause-values : goal.returns-clause-values
 returns-clause-values c =
     c.unfold_sums.ensures
-    ∙ (ap (λ (sums : List ℤ). unfolded sums c.scale.result) c.half_sums.ensures.values
+    ∙ (ap (λ (sums : List ℤ). unfolded sums c.scale.result) (c.half_sums.ensures.values c.args.constants.now refl)
     ∙ (ap (unfolded (half_sums c.args.constants.now (2 * length c.args.spectrum.now) c.args.spectrum.now)) c.scale.ensures.value
     ∙ unfolded_transforms c.args.constants.now c.args.spectrum.now c.requires.size))
 

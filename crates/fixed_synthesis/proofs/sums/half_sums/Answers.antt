@@ -1,6 +1,7 @@
 use Rattle.std.proofs.Common.{◌≡◌, ◌≤◌, sym, subst, length, get_or, pos, inl, inr, arith}
 use Rattle.std.proofs.lemmas.Bool.{cases_lt}
 use Rattle.std.proofs.lemmas.List.{get_or_past}
+use Rattle.half_sums.specs.HalfSums.{AreHalfSums}
 use Rattle.model_synthesis.specs.Spectrum.{IsBin}
 use Rattle.fixed_synthesis.proofs.sums.half_sums.Goals as goal
 
@@ -10,5 +11,6 @@ half_sums-requires-clause-bins c k = elim (cases_lt k (length c.args.spectrum.no
   | inr past ↦ subst IsBin (sym (get_or_past c.args.spectrum.now k (pos 0) past)) (omega arith)
 ]
 
-pub returns-clause-values : goal.returns-clause-values
-returns-clause-values c = c.half_sums.ensures.values c.args.constants.now (sym c.transforms.ensures)
+pub returns : goal.returns
+returns c =
+    subst (λ cosines. AreHalfSums cosines c.args.spectrum.now c.half_sums.new.sums) c.transforms.ensures c.half_sums.ensures

@@ -1,4 +1,4 @@
-use Rattle.field_writing.proofs.Puts.{first_place}
+use Rattle.setup_fields.proofs.Puts.{first_place}
 use Rattle.floor_one.proofs.class.write_subclass_book.Goals as goal
 
 pub put_number-requires-clause-fits : goal.put_number-requires-clause-fits

@@ -1,6 +1,6 @@
 use Rattle.std.proofs.Common.{take, flat_map}
 use Rattle.model_writing.specs.SetupWriting.{subclass_book_fields}
-use Rattle.field_writing.specs.Puts.{ArePut}
+use Rattle.setup_fields.specs.Puts.{ArePut}
 use Rattle.floor_one.proofs.class.write_subclass_books.Given as goal
 
 abbrev pub invariant-loop-book : goal.invariant-loop-book

@@ -1,6 +1,6 @@
 use Rattle.std.proofs.Common.{take, flat_map}
 use Rattle.model_writing.specs.SetupWriting.{class_fields}
-use Rattle.field_writing.specs.Puts.{ArePut}
+use Rattle.setup_fields.specs.Puts.{ArePut}
 use Rattle.floor_one.proofs.floor.write_classes.Given as goal
 
 abbrev pub invariant-loop-class : goal.invariant-loop-class

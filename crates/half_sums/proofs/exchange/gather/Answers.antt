@@ -1,7 +1,7 @@
 use Rattle.std.proofs.Common.{◌<◌, length, subst, sym, inl, inr, arith}
 use Rattle.std.proofs.lemmas.List.{get_or_past}
 use Rattle.std.proofs.lemmas.Bool.{cases_lt}
-use Rattle.prime_field.specs.declared.TheConstants.{PRIME}
+use Rattle.number_transform.specs.declared.field.TheConstants.{PRIME}
 use Rattle.half_sums.proofs.exchange.gather.Goals as goal
 
 pub returns-clause-small : goal.returns-clause-small

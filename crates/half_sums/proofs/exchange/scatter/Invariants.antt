@@ -1,6 +1,6 @@
 use Rattle.std.proofs.Common.{◌≡◌, ℕ, ◌<◌, ◌*◌, ℤ, pos, length, slice_get, slice_index, slice_index_or, unsigned_abs, Some}
-use Rattle.prime_field.specs.declared.TheConstants.{PRIME}
-use Rattle.prime_field.specs.Residues.{residue_of}
+use Rattle.number_transform.specs.declared.field.TheConstants.{PRIME}
+use Rattle.number_transform.specs.Field.{residue_of}
 use Rattle.half_sums.specs.declared.places.Place.{Place}
 use Rattle.half_sums.specs.Places.{signed}
 use Rattle.half_sums.proofs.exchange.scatter.Given as goal

@@ -1,5 +1,5 @@
 use Rattle.std.proofs.Common.{◌≡◌, ◌≤◌, ◌*◌, slice_index}
-use Rattle.model_transform.specs.Products.{total}
+use Rattle.number_transform.specs.Products.{total}
 use Rattle.model_synthesis.specs.declared.limits.TheConstants.{SPECTRUM_LIMIT}
 use Rattle.half_sums.proofs.lanes.whole_magnitude.Given as goal
 

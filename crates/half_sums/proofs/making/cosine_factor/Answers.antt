@@ -1,8 +1,8 @@
 use Rattle.std.proofs.Common.{◌≡◌, ◌^◌, ◌∙◌, length, ap, arith}
 use Rattle.std.proofs.lemmas.List.{take_at}
 use Rattle.std.proofs.lemmas.List.FromFn.{length-map-range_with_len}
-use Rattle.prime_field.specs.Residues.{residue_of}
-use Rattle.polynomial_product.specs.Factors.{factor_of}
+use Rattle.number_transform.specs.Field.{residue_of}
+use Rattle.number_transform.specs.Factors.{factor_of}
 use Rattle.half_sums.specs.declared.block.TheConstants.{SUM_STEP}
 use Rattle.half_sums.specs.Blocks.{cosine_at, cosine_list, size_of}
 use Rattle.half_sums.proofs.making.cosine_factor.Goals as goal

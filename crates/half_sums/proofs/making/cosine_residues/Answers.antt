@@ -2,7 +2,7 @@ use Rattle.std.proofs.Common.{◌≡◌, ◌<◌, ◌*◌, ◌%◌, ◌^◌, ◌
 use Rattle.std.specs.List.{range_with_len}
 use Rattle.std.proofs.Math.Nat.{mod-lt}
 use Rattle.std.proofs.lemmas.List.FromFn.{map-range_with_len_more}
-use Rattle.prime_field.specs.Residues.{residue_of}
+use Rattle.number_transform.specs.Field.{residue_of}
 use Rattle.model_synthesis.specs.Tables.{first_quarter}
 use Rattle.model_synthesis.proofs.Waves.{wave_rest}
 use Rattle.half_sums.specs.declared.block.TheConstants.{SUM_STEP}

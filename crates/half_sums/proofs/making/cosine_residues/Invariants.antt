@@ -1,6 +1,6 @@
 use Rattle.std.proofs.Common.{◌≡◌, ◌*◌, ◌%◌, ◌^◌, map}
 use Rattle.std.specs.List.{range_with_len}
-use Rattle.prime_field.specs.Residues.{residue_of}
+use Rattle.number_transform.specs.Field.{residue_of}
 use Rattle.half_sums.specs.declared.block.TheConstants.{SUM_STEP}
 use Rattle.half_sums.specs.Blocks.{cosine_at, size_of}
 use Rattle.half_sums.proofs.making.cosine_residues.Given as goal

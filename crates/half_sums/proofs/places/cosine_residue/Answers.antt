@@ -1,6 +1,6 @@
 use Rattle.std.proofs.Common.{◌∙◌, ap, rules, w64}
 use Rattle.std.proofs.lemmas.Int.{to_z-of_z}
-use Rattle.prime_field.specs.Residues.{residue_of}
+use Rattle.number_transform.specs.Field.{residue_of}
 use Rattle.half_sums.proofs.places.cosine_residue.Goals as goal
 
 pub returns-clause-value : goal.returns-clause-value

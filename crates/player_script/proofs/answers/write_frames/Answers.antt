@@ -2,7 +2,7 @@ use Rattle.std.proofs.Common.{◌++◌, ℕ, ℤ, List, length, codes, ap, ◌�
 use Rattle.std.specs.Fmt.{decimal}
 use Rattle.std.specs.List.{flat_map}
 use Rattle.hex.specs.Hex.{encode_lower}
-use Rattle.model_film.specs.Dumps.{sample_bytes, frame_bytes}
+use Rattle.model_line.specs.FrameBytes.{sample_bytes, frame_bytes}
 use Rattle.player_script.proofs.Bodies.{on_ok, five_parts}
 use Rattle.player_script.proofs.SampleSteps.{by_values}
 use Rattle.player_script.proofs.answers.write_frames.Goals as goal

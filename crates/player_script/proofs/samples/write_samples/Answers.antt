@@ -3,7 +3,7 @@ use Rattle.std.specs.List.{flat_map}
 use Rattle.std.proofs.lemmas.List.{take_more}
 use Rattle.std.proofs.lemmas.Grind.{common_steps}
 use Rattle.hex.specs.Hex.{encode_with, encode_lower}
-use Rattle.model_film.specs.Dumps.{sample_bytes}
+use Rattle.model_line.specs.FrameBytes.{sample_bytes}
 use Rattle.player_script.proofs.Bodies.{on_err}
 use Rattle.player_script.proofs.SampleSteps.{digits_push}
 use Rattle.player_script.proofs.samples.write_samples.Goals as goal

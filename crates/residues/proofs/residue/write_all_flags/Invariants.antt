@@ -1,6 +1,6 @@
 use Rattle.std.proofs.Common.{take, flat_map}
 use Rattle.model_writing.specs.SetupWriting.{cascade_fields}
-use Rattle.field_writing.specs.Puts.{ArePut}
+use Rattle.setup_fields.specs.Puts.{ArePut}
 use Rattle.residues.proofs.residue.write_all_flags.Given as goal
 
 abbrev pub invariant-loop-cascade : goal.invariant-loop-cascade

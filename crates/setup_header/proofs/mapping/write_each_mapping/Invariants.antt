@@ -1,6 +1,6 @@
 use Rattle.std.proofs.Common.{take, flat_map}
 use Rattle.model_writing.specs.SetupWriting.{mapping_fields}
-use Rattle.field_writing.specs.Puts.{ArePut}
+use Rattle.setup_fields.specs.Puts.{ArePut}
 use Rattle.setup_header.proofs.mapping.write_each_mapping.Given as goal
 
 abbrev pub invariant-loop-mapping : goal.invariant-loop-mapping

@@ -1,9 +1,10 @@
 use Rattle.std.proofs.Common.{◌≡◌, ◌≤◌, ◌+◌, ◌^◌, length, OnOk, subst, sym, arith}
 use Rattle.model_setup.specs.SetupPacket.{Mapping}
 use Rattle.model_writing.specs.SetupWriting.{mapping_fields}
-use Rattle.field_writing.specs.Puts.{ArePut, HavePlaces}
-use Rattle.field_writing.proofs.Puts.{on_ok}
+use Rattle.setup_fields.specs.Puts.{ArePut, HavePlaces}
+use Rattle.setup_fields.proofs.Puts.{on_ok}
 use Rattle.setup_header.proofs.Written.{flagged_small, mapping_places, mapping_put}
+use Rattle.setup_fields.proofs.Fronts.{front_then, on_err}
 use Rattle.setup_header.proofs.mapping.write_mapping.Goals as goal
 
 pub overflow_cast-len : goal.overflow_cast-len
@@ -61,8 +62,8 @@ write_each_submap-requires c =
     let have = mapping_places m (subst (λ (mapping : Mapping). HavePlaces (mapping_fields mapping)) (sym c.mapping.view_is) c.requires.fits) in
     rw c.deref-3.ensures.value have.submaps
 
-pub returns : goal.returns
-returns c =
+pub returns-clause-put : goal.returns-clause-put
+returns-clause-put c =
     let s = c.mapping.inside in
     let m : Mapping = record { couplings = s.couplings.items; mux = s.mux.items; submaps = s.submaps.items } in
     let submaps : c.len.result ≡ length s.submaps.items = omega (arith, c.len.ensures, s.submaps.ok.0) in
@@ -70,6 +71,9 @@ returns c =
     let channels : c.len-3.result ≡ length s.mux.items = omega (arith, c.len-3.ensures, s.mux.ok.0) in
     let mux : c.len-4.result ≡ length s.submaps.items = omega (arith, c.len-4.ensures, s.submaps.ok.0) in
     subst (λ (mapping : Mapping). OnOk c.write_each_submap.result (ArePut c.args.out.now c.write_each_submap.new.out (mapping_fields mapping))) c.mapping.view_is
-    (on_ok c.write_each_submap.result (rw c.deref-3.ensures.value at c.write_each_submap.ensures) (λ last.
-    mapping_put m c.in_ok-put_number.ensures (rw submaps at c.in_ok-put_flagged_count.ensures) (rw couplings at c.in_ok-put_flagged_count-2.ensures)
-    (rw (channels, c.deref.ensures.value) at c.in_ok-write_each_coupling.ensures) c.in_ok-put_number-2.ensures (rw (mux, c.deref-2.ensures.value) at c.in_ok-write_mux.ensures) last))
+    (on_ok c.write_each_submap.result (rw c.deref-3.ensures.value at c.write_each_submap.ensures.put) (λ last.
+    mapping_put m c.in_ok-put_number.ensures.put (rw submaps at c.in_ok-put_flagged_count.ensures.put) (rw couplings at c.in_ok-put_flagged_count-2.ensures.put)
+    (rw (channels, c.deref.ensures.value) at c.in_ok-write_each_coupling.ensures.put) c.in_ok-put_number-2.ensures.put (rw (mux, c.deref-2.ensures.value) at c.in_ok-write_mux.ensures.put) last))
+
+pub returns-clause-kept : goal.returns-clause-kept
+returns-clause-kept c = on_err c.write_each_submap.result c.write_each_submap.ensures.kept (λ last. front_then c.in_ok-put_number.ensures.put (front_then c.in_ok-put_flagged_count.ensures.put (front_then c.in_ok-put_flagged_count-2.ensures.put (front_then c.in_ok-write_each_coupling.ensures.put (front_then c.in_ok-put_number-2.ensures.put (front_then c.in_ok-write_mux.ensures.put last))))))

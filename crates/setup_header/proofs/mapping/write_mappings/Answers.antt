@@ -1,5 +1,5 @@
 use Rattle.std.proofs.Common.{◌-◌, ◌<◌, ◌^◌, length, arith}
-use Rattle.field_writing.proofs.Puts.{first_place, next_places}
+use Rattle.setup_fields.proofs.Puts.{first_place, next_places}
 use Rattle.setup_header.proofs.mapping.write_mappings.Goals as goal
 
 pub overflow_cast-mappings : goal.overflow_cast-mappings

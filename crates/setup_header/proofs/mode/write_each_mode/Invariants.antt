@@ -1,6 +1,6 @@
 use Rattle.std.proofs.Common.{take, flat_map}
 use Rattle.model_writing.specs.SetupWriting.{mode_fields}
-use Rattle.field_writing.specs.Puts.{ArePut}
+use Rattle.setup_fields.specs.Puts.{ArePut}
 use Rattle.setup_header.proofs.mode.write_each_mode.Given as goal
 
 abbrev pub invariant-loop-mode : goal.invariant-loop-mode

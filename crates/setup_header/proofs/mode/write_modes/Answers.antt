@@ -1,5 +1,5 @@
 use Rattle.std.proofs.Common.{◌-◌, ◌<◌, ◌^◌, length, arith}
-use Rattle.field_writing.proofs.Puts.{first_place, next_places}
+use Rattle.setup_fields.proofs.Puts.{first_place, next_places}
 use Rattle.setup_header.proofs.mode.write_modes.Goals as goal
 
 pub overflow_cast-modes : goal.overflow_cast-modes

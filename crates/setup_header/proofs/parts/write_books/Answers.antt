@@ -1,5 +1,5 @@
 use Rattle.std.proofs.Common.{◌-◌, ◌<◌, ◌^◌, length, arith}
-use Rattle.field_writing.proofs.Puts.{first_place, next_places}
+use Rattle.setup_fields.proofs.Puts.{first_place, next_places}
 use Rattle.setup_header.proofs.parts.write_books.Goals as goal
 
 pub overflow_cast-books : goal.overflow_cast-books

@@ -1,6 +1,6 @@
 use Rattle.std.proofs.Common.{take, flat_map}
 use Rattle.setup_header.specs.Parts.{numbered_floor_fields}
-use Rattle.field_writing.specs.Puts.{ArePut}
+use Rattle.setup_fields.specs.Puts.{ArePut}
 use Rattle.setup_header.proofs.parts.write_each_floor.Given as goal
 
 abbrev pub invariant-loop-floor : goal.invariant-loop-floor

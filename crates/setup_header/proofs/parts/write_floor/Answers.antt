@@ -1,4 +1,4 @@
-use Rattle.field_writing.proofs.Puts.{next_places}
+use Rattle.setup_fields.proofs.Puts.{next_places}
 use Rattle.setup_header.proofs.parts.write_floor.Goals as goal
 
 pub write-requires : goal.write-requires

@@ -3,7 +3,7 @@ use Rattle.std.specs.List.{All}
 use borrow.Author.Tests.{ltb-true}
 use Rattle.model_line.specs.Origins.{listed}
 use Rattle.model_line.specs.Decode.{LineItem}
-use Rattle.model_cursor.specs.FrameLists.{Frame}
+use Rattle.model_line.specs.Blocks.{Frame}
 use Rattle.model_cursor.specs.Runs.{run_at}
 use Rattle.model_cursor.specs.Cursors.{CursorState}
 use Rattle.model_cursor.specs.Plans.{splicing_of}

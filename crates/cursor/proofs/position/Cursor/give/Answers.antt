@@ -1,6 +1,6 @@
 use Rattle.std.proofs.Common.{◌∙◌, ap, sym, arith, length, List, ℕ}
 use Rattle.model_cursor.specs.declared.reply.Reply.TheVariants as replies
-use Rattle.model_cursor.specs.FrameLists.{Frame}
+use Rattle.model_line.specs.Blocks.{Frame}
 use Rattle.model_cursor.specs.Cursors.{CursorState, passed}
 use Rattle.model_cursor.specs.Positions.{state_in}
 use Rattle.cursor.proofs.Inside.{inside}

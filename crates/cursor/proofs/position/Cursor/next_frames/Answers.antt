@@ -1,5 +1,6 @@
 use Rattle.std.proofs.Common.{◌≡◌, ◌∙◌, ◌++◌, ap, arith, length, take, drop, List, ℤ}
-use Rattle.model_cursor.specs.FrameLists.{Frame, values_of}
+use Rattle.model_line.specs.Blocks.{Frame}
+use Rattle.model_cursor.specs.FrameLists.{values_of}
 use Rattle.model_cursor.specs.Positions.{Position}
 use Rattle.cursor.specs.Patches.{patched}
 use Rattle.cursor.specs.Portions.{frames_from}

@@ -2,8 +2,7 @@ use Rattle.std.proofs.Common.{◌≡◌, ◌<◌, ◌*◌, ◌∙◌, ap, arith,
 use Rattle.std.specs.List.{All}
 use Rattle.std.proofs.lemmas.Bool.{lt-ltb}
 use Rattle.std.proofs.lemmas.List.{length-take}
-use Rattle.model_line.specs.Blocks.{Values}
-use Rattle.model_cursor.specs.FrameLists.{Frame}
+use Rattle.model_line.specs.Blocks.{Values, Frame}
 use Rattle.model_cursor.specs.Runs.{run_at}
 use Rattle.model_cursor.specs.Sources.{line_from}
 use Rattle.model_cursor.specs.Splices.{mixed_from}

@@ -1,6 +1,6 @@
 use Rattle.std.proofs.Common.{◌≡◌, ◌-◌, List, length, take, drop, ℕ, ◌∙◌, arith, length-drop}
 use Rattle.std.proofs.lemmas.List.{take_all}
-use Rattle.field_writing.proofs.Puts.{first_place, next_places}
+use Rattle.setup_fields.proofs.Puts.{first_place, next_places}
 use Rattle.floor_one.proofs.points.Points.write.Goals as goal
 
 behind_two : (xs : List ℕ) → take (length xs - 2) (drop 2 xs) ≡ drop 2 xs

@@ -1,7 +1,7 @@
 use Rattle.std.proofs.Common.{◌≡◌, ◌≤◌, ◌<◌, ◌-◌, ◌*◌, ◌^◌, ◌∙◌, ◌+ℤ◌, ℕ, ℤ, pos, ap, sym, subst, List, length, slice_get, slice_index, arith}
 use Rattle.std.proofs.Math.Nat.{mod-eq_of_lt}
 use Rattle.std.proofs.Math.Pow.{pow_mono}
-use Rattle.model_transform.specs.Products.{total}
+use Rattle.number_transform.specs.Products.{total}
 use Rattle.model_synthesis.specs.declared.constants.TheConstants.{SCALE}
 use Rattle.half_sums.specs.declared.places.Place.{Place}
 use Rattle.half_sums.specs.declared.transforms.TheConstants.{LEAST_LEVELS}
@@ -10,7 +10,7 @@ use Rattle.half_sums.specs.Shares.{bin_at, share_start, share_sum}
 use Rattle.half_sums.proofs.LaidOut.{block_at}
 use Rattle.half_sums.proofs.LaneLemmas.{share_sum_small, few_shares}
 use Rattle.half_sums.proofs.ShareSums.{shares_are}
-use Rattle.half_sums.proofs.SmallSums.{sums_small}
+use Rattle.half_sums.proofs.SmallSums.{half_sums_are}
 use Rattle.half_sums.proofs.SumsAtPlaces.{power_sum, target, places_agree, sums_are}
 use Rattle.half_sums.proofs.transforms.Transforms.lanes_over.Goals as goal
 
@@ -106,12 +106,15 @@ raised_sums n magnitudes starts waves waves' value raised a z en ew ev er e =
     ap pos (ev ∙ (ap (λ (l : List ℕ). share_sum magnitudes starts l (length magnitudes) a) ew ∙ ap (λ m. share_sum magnitudes starts waves' m a) (sym en)))
     ∙ (e ∙ ap (λ x. z +ℤ pos x) (ap (λ m. total m (slice_index magnitudes) * 2 ^ SCALE) en ∙ sym er))
 
-pub returns-clause-values : goal.returns-clause-values
-returns-clause-values c tables same =
+pub returns : goal.returns
+returns c =
     let levels = c.args.levels in
     let block = c.index-block.result.now in
     let spectrum = c.args.spectrum.now in
     let bins = c.requires.bins in
+    let most : 2 ^ levels ≤ 128 = few_bins levels c.requires.most in
+    half_sums_are c.self.inside.cosines.items c.args.self.now c.place_sums.new.sums spectrum (2 * 2 ^ levels) c.self.invariant.right c.self.view_is bins (omega arith) (ap (λ n. 2 * n) c.requires.spectrum)
+    (λ tables same.
     let inside : c.self.inside.cosines.items ≡ tables.cosines = c.self.view_is ∙ sym same in
     let is : IsBlockFor levels tables.cosines block =
     subst (λ l. IsBlockFor levels l block) inside
@@ -132,9 +135,4 @@ returns-clause-values c tables same =
     (λ i below. raised_sums (2 ^ levels) magnitudes starts c.deref-2.result.now block.waves.items (slice_index c.share_sums.new.values i) _ i
     (power_sum levels tables block right is spectrum bins i) size c.deref-2.ensures.value (c.share_sums.ensures i (omega arith)) raised (shares i (omega arith)))
     (λ i q here. places_agree levels tables block right is spectrum bins i q (ap (λ (l : List Place). slice_get l i) (sym c.deref-3.ensures.value) ∙ here))
-    a p (ap (λ (l : List Place). slice_get l a) c.deref-3.ensures.value ∙ got))
-
-pub returns-clause-small : goal.returns-clause-small
-returns-clause-small c =
-    let most : 2 ^ c.args.levels ≤ 128 = few_bins c.args.levels c.requires.most in
-    sums_small c.self.inside.cosines.items c.args.self.now c.place_sums.new.sums c.args.spectrum.now (2 * 2 ^ c.args.levels) c.self.invariant.right c.self.view_is c.requires.bins (omega arith) (returns-clause-values c)
+    a p (ap (λ (l : List Place). slice_get l a) c.deref-3.ensures.value ∙ got)))

@@ -1,5 +1,4 @@
-use Rattle.std.proofs.Common.{◌≡◌, ◌*◌, ◌∙◌, sym, subst, length}
-use Rattle.half_sums.specs.HalfSums.{half_sums}
+use Rattle.std.proofs.Common.{◌∙◌, length}
 use Rattle.half_sums.proofs.LaidOut.{HasLevels, has_levels}
 use Rattle.half_sums.proofs.transforms.Transforms.sounding_sums.Goals as goal
 
@@ -47,15 +46,3 @@ product_sums-requires-clause-sums c =
     let is : HasLevels (length c.args.spectrum.now) c.ilog2-levels.result =
     has_levels (length c.args.spectrum.now) c.ilog2-levels.result c.requires.size c.ilog2-levels.ensures.power_le c.ilog2-levels.ensures.next_power_gt in
     c.requires.sums ∙ is.is_power
-
-pub returns-then-in_lanes-clause-values : goal.returns-then-in_lanes-clause-values
-returns-then-in_lanes-clause-values c tables same =
-    let is : HasLevels (length c.args.spectrum.now) c.ilog2-levels.result =
-    has_levels (length c.args.spectrum.now) c.ilog2-levels.result c.requires.size c.ilog2-levels.ensures.power_le c.ilog2-levels.ensures.next_power_gt in
-    subst (λ n. c.lane_sums.new.sums ≡ half_sums tables (2 * n) c.args.spectrum.now) (sym is.is_power) (c.lane_sums.ensures.values tables same)
-
-pub returns-else-in_lanes-clause-values : goal.returns-else-in_lanes-clause-values
-returns-else-in_lanes-clause-values c tables same =
-    let is : HasLevels (length c.args.spectrum.now) c.ilog2-levels.result =
-    has_levels (length c.args.spectrum.now) c.ilog2-levels.result c.requires.size c.ilog2-levels.ensures.power_le c.ilog2-levels.ensures.next_power_gt in
-    subst (λ n. c.product_sums.new.sums ≡ half_sums tables (2 * n) c.args.spectrum.now) (sym is.is_power) (c.product_sums.ensures.values tables same)

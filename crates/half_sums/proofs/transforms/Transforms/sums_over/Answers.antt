@@ -5,7 +5,7 @@ use Rattle.half_sums.specs.Blocks.{AreCosines, IsBlockFor, cosine_list}
 use Rattle.half_sums.proofs.LaidOut.{block_at, length-factor_of}
 use Rattle.half_sums.proofs.SumsAtPlaces.{power_sum, power_sum_small, products_are, target, places_agree, sums_are}
 use Rattle.std.proofs.Math.Pow.{pow_mono}
-use Rattle.half_sums.proofs.SmallSums.{sums_small}
+use Rattle.half_sums.proofs.SmallSums.{half_sums_are}
 use Rattle.half_sums.proofs.transforms.Transforms.sums_over.Goals as goal
 
 pub multiply-requires-clause-factor : goal.multiply-requires-clause-factor
@@ -25,12 +25,15 @@ scatter-requires-clause-index c a p got =
     let at = is.sums.each a p (ap (λ (l : List Place). slice_get l a) (sym c.deref-3.ensures.value) ∙ got) in
     omega (arith, at.within)
 
-pub returns-clause-values : goal.returns-clause-values
-returns-clause-values c tables same =
+pub returns : goal.returns
+returns c =
     let levels = c.args.levels in
     let block = c.index-block.result.now in
     let spectrum = c.args.spectrum.now in
     let bins = c.requires.bins in
+    let most : 2 ^ levels ≤ 2 ^ 12 = pow_mono c.requires.most in
+    half_sums_are c.self.inside.cosines.items c.args.self.now c.scatter.new.sums spectrum (2 * 2 ^ levels) c.self.invariant.right c.self.view_is bins (omega arith) (ap (λ n. 2 * n) c.requires.spectrum)
+    (λ tables same.
     let inside : c.self.inside.cosines.items ≡ tables.cosines = c.self.view_is ∙ sym same in
     let is : IsBlockFor levels tables.cosines block =
     subst (λ l. IsBlockFor levels l block) inside
@@ -43,9 +46,4 @@ returns-clause-values c tables same =
     c.scatter.ensures (power_sum levels tables block right is spectrum bins) (target levels tables block right is spectrum bins)
     (λ i below. (products i (omega arith), power_sum_small levels tables block right is spectrum bins i))
     (λ i q here. places_agree levels tables block right is spectrum bins i q (ap (λ (l : List Place). slice_get l i) (sym c.deref-3.ensures.value) ∙ here))
-    a p (ap (λ (l : List Place). slice_get l a) c.deref-3.ensures.value ∙ got))
-
-pub returns-clause-small : goal.returns-clause-small
-returns-clause-small c =
-    let most : 2 ^ c.args.levels ≤ 2 ^ 12 = pow_mono c.requires.most in
-    sums_small c.self.inside.cosines.items c.args.self.now c.scatter.new.sums c.args.spectrum.now (2 * 2 ^ c.args.levels) c.self.invariant.right c.self.view_is c.requires.bins (omega arith) (returns-clause-values c)
+    a p (ap (λ (l : List Place). slice_get l a) c.deref-3.ensures.value ∙ got)))

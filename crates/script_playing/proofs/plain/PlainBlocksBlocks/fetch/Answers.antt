@@ -1,7 +1,7 @@
 use Rattle.std.proofs.Common.{◌≡◌, ap, ◌∙◌}
 use Rattle.std.proofs.lemmas.Result.{IfOk-weaker}
 use Rattle.model_line.specs.Blocks.{Values}
-use Rattle.model_film.specs.FilmHalves.{film_halves}
+use Rattle.model_report.specs.FilmHalves.{film_halves}
 use Rattle.film_blocks.specs.KeyedBlocks.{half_of}
 use Rattle.script_playing.proofs.FilmCursors.{half_same}
 use Rattle.script_playing.proofs.plain.PlainBlocksBlocks.fetch.Goals as goal

@@ -1,5 +1,0 @@
-use Rattle.model_film.proofs.CursorHalves.{halves_serve_cursors}
-use Rattle.model_film.proofs.laws.halves_serve_cursors.Goals as goal
-
-pub returns : goal.returns
-returns c = halves_serve_cursors

@@ -1,0 +1,13 @@
+pub mod Congruences
+pub mod Powers
+pub mod Totals
+pub mod Folding
+pub mod Values
+pub mod RemainderLaws
+pub mod Examples
+pub mod Filling
+pub mod Differences
+pub mod Halves
+pub mod Fours
+pub mod Scales
+pub mod RootLaws

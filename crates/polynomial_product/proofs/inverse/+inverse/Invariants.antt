@@ -1,4 +1,0 @@
-use Rattle.polynomial_product.proofs.inverse.+inverse.Given as goal
-
-abbrev pub decreases-inverse : goal.decreases-inverse
-decreases-inverse l = l.levels

@@ -1,6 +1,0 @@
-use Rattle.std.proofs.Common.{◌≡◌, drop, [], ◌∷◌}
-use Rattle.polynomial_product.specs.Roots.{grown}
-use Rattle.polynomial_product.proofs.roots.grow_all.Given as goal
-
-abbrev pub invariant-loop-stem : goal.invariant-loop-stem
-invariant-loop-stem l = grown (drop l.stem-index l.stems) l.table.items ≡ grown l.fn.stems (1 ∷ [])

@@ -1,2 +1,0 @@
-pub mod Congruences
-pub mod Powers
