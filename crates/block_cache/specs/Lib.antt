@@ -1,0 +1,5 @@
+pub mod Meanings
+pub mod FilmMeanings
+pub mod LikeBlocks
+pub mod Stages
+pub mod Turns

@@ -1,0 +1,4 @@
+pub mod Slots
+pub mod Claims
+pub mod Errands
+pub mod Courses
