@@ -6,7 +6,7 @@
   file of a link;
 - a constant in backticks, as `MOST_LINKS`, stands in a source or a tool;
 - specs named as `crate` (`Name`, ..) are specs of that crate;
-- in a table whose second column is a crate, the calls of the first are that crate's; README names every crate;
+- in a table whose second column is a crate, the calls of the first are that crate's; docs/ARCHITECTURE.md names every crate;
 - in docs/PROVED.md a row's calls and clauses stand in a source of the crates that its section names."""
 import glob
 import os
@@ -114,7 +114,7 @@ def main():
     for path in sorted(os.path.relpath(it, ROOT) for form in DOCUMENTS for it in glob.glob(os.path.join(ROOT, form))):
         text = read(path)
         wrong = [*blocks(text), *paths(text, os.path.dirname(path)), *names(text, sources), *tables(text)]
-        if path == 'README.md':
+        if path == 'docs/ARCHITECTURE.md':
             wrong += crates(text)
         if path == 'docs/PROVED.md':
             wrong += proved(text)
